@@ -1,0 +1,3 @@
+// Refusals: why a call said no, and where in the file.
+pub mod cause;
+pub mod refusal;

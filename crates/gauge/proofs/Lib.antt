@@ -1,0 +1,5 @@
+pub mod Carried
+pub mod Times
+pub mod Choosing
+pub mod Counts
+pub mod Matrices

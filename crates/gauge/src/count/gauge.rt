@@ -1,0 +1,49 @@
+ghost use mathlib.Core.Path.{_≡_};
+ghost use Rattle.gauge.specs.Count.{count-ops, count-delays};
+use crate::count::Count;
+use crate::gauges::Gauge;
+use crate::semiring::Semiring;
+
+impl Count {
+    pub fn paths(self) -> u32
+        ensures { λ r. ⌜ r ≡ self .paths ⌝ }
+    {
+        self.paths
+    }
+}
+
+pub impl Semiring for Count as CountSemiring {
+    ghost ops = { count-ops };
+
+    fn zero() -> Count {
+        Count { paths: 0 }
+    }
+
+    fn one() -> Count {
+        Count { paths: 1 }
+    }
+
+    fn plus(self, other: Count) -> Count {
+        Count {
+            paths: self.paths.wrapping_add(other.paths),
+        }
+    }
+
+    fn times(self, other: Count) -> Count {
+        Count {
+            paths: self.paths.wrapping_mul(other.paths),
+        }
+    }
+
+    fn same(self, other: Count) -> bool {
+        self.paths == other.paths
+    }
+}
+
+pub impl Gauge for Count as CountGauge {
+    ghost delays = { count-delays };
+
+    fn from_delays(_late: u32, _early: u32) -> Count {
+        Count { paths: 1 }
+    }
+}
