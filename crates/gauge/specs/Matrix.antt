@@ -16,7 +16,11 @@ at x Fall Fall = x .«fall_fall»
 abbrev pub matrix : {S : Type 0} → (Edge → Edge → S) → EdgeMatrix S
 matrix f = record { «rise_rise» = f Rise Rise; «rise_fall» = f Rise Fall; «fall_rise» = f Fall Rise; «fall_fall» = f Fall Fall }
 
--- on is at equal edges, off elsewhere
+-- the arrival at an edge: the sum of the two entries that end in it
+abbrev pub into : {S : Type 0} → Ops S → EdgeMatrix S → Edge → S
+into r x b = r .plus (at x Rise b) (at x Fall b)
+
+-- one value where the edges are equal, another elsewhere
 abbrev pub diagonal : {S : Type 0} → S → S → Edge → Edge → S
 diagonal on off Rise Rise = on
 diagonal on off Rise Fall = off

@@ -1,5 +1,5 @@
 ghost use mathlib.Core.Path.{_≡_};
-ghost use Rattle.gauge.specs.Matrix.{edge-ops, at};
+ghost use Rattle.gauge.specs.Matrix.{edge-ops, at, into};
 use crate::edge::Edge;
 use crate::semiring::Semiring;
 
@@ -25,24 +25,37 @@ impl<S: Copy> EdgeMatrix<S> {
     }
 }
 
+impl<S: Semiring> EdgeMatrix<S> {
+    /// The arrival at an edge: the sum of the two entries that end in it.
+    pub fn arrival(self, edge: Edge) -> S
+        ensures { λ r. ⌜ r ≡ into (S·Semiring .ops) self edge ⌝ }
+    {
+        self.entry(Edge::Rise, edge)
+            .plus(self.entry(Edge::Fall, edge))
+    }
+}
+
 pub impl<S: Semiring> Semiring for EdgeMatrix<S> as EdgeSemiring {
     ghost ops = { edge-ops (S·Semiring .ops) };
 
     fn zero() -> EdgeMatrix<S> {
+        let none = S::zero();
         EdgeMatrix {
-            rise_rise: S::zero(),
-            rise_fall: S::zero(),
-            fall_rise: S::zero(),
-            fall_fall: S::zero(),
+            rise_rise: none,
+            rise_fall: none,
+            fall_rise: none,
+            fall_fall: none,
         }
     }
 
     fn one() -> EdgeMatrix<S> {
+        let on = S::one();
+        let off = S::zero();
         EdgeMatrix {
-            rise_rise: S::one(),
-            rise_fall: S::zero(),
-            fall_rise: S::zero(),
-            fall_fall: S::one(),
+            rise_rise: on,
+            rise_fall: off,
+            fall_rise: off,
+            fall_fall: on,
         }
     }
 
