@@ -1,5 +1,4 @@
 ghost use mathlib.Core.Path.{_≡_};
-ghost use lib.Chars.{codes};
 ghost use Rattle.std.specs.declared.option.Option.the-variants.{Some};
 ghost use Rattle.fault.specs.Causes.{numberOf, sentenceOf, Numbers-differ};
 use std::fmt;
@@ -54,7 +53,7 @@ impl Cause {
 
     /// The cause in words.
     pub fn sentence(self) -> &'static str
-        ensures { λ r. ⌜ now r ≡ codes (sentenceOf self) ⌝ }
+        ensures { λ r. ⌜ now r ≡ sentenceOf self ⌝ }
     {
         match self {
             Cause::FileTooLong => "the file is too long",
@@ -84,7 +83,7 @@ pub fn numbers_differ()
 {}
 
 pub impl fmt::Display for Cause as CauseDisplay {
-    ghost shown = { λ c. Some (codes (sentenceOf c)) };
+    ghost shown = { λ c. Some (sentenceOf c) };
 
     fn fmt<W: fmt::Write>(&self, f: &mut fmt::Formatter<W>) -> fmt::Result {
         f.write_str(self.sentence())

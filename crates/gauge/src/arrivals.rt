@@ -1,8 +1,16 @@
 // Arrivals: a time, or none where no path arrives.
 ghost use mathlib.Core.Path.{_≡_};
-ghost use Rattle.gauge.specs.Times.{larger, smaller};
+ghost use Rattle.std.specs.declared.option.Option.the-variants.{Some};
+ghost use Rattle.gauge.specs.Times.{larger, smaller, time};
 ghost use Rattle.gauge.specs.Arrivals.{chosen, passed, alike as sameArrival};
 use crate::time::Time;
+
+/// The arrival at a time.
+pub fn at(picoseconds: u32) -> Option<Time>
+    ensures { λ r. ⌜ r ≡ Some (time picoseconds) ⌝ }
+{
+    Some(Time::new(picoseconds))
+}
 
 /// The later of two arrivals; none gives way.
 pub fn latest(a: Option<Time>, b: Option<Time>) -> Option<Time>

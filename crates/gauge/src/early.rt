@@ -19,9 +19,7 @@ pub impl Semiring for Early as EarlySemiring {
     }
 
     fn one() -> Early {
-        Early {
-            arrival: Some(Time::new(0)),
-        }
+        Early { arrival: at(0) }
     }
 
     fn plus(self, other: Early) -> Early {
@@ -45,9 +43,7 @@ pub impl Gauge for Early as EarlyGauge {
     ghost delays = { early-delays };
 
     fn from_delays(_late: u32, early: u32) -> Early {
-        Early {
-            arrival: Some(Time::new(early)),
-        }
+        Early { arrival: at(early) }
     }
 }
 

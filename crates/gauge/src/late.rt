@@ -19,9 +19,7 @@ pub impl Semiring for Late as LateSemiring {
     }
 
     fn one() -> Late {
-        Late {
-            arrival: Some(Time::new(0)),
-        }
+        Late { arrival: at(0) }
     }
 
     fn plus(self, other: Late) -> Late {
@@ -45,9 +43,7 @@ pub impl Gauge for Late as LateGauge {
     ghost delays = { late-delays };
 
     fn from_delays(late: u32, _early: u32) -> Late {
-        Late {
-            arrival: Some(Time::new(late)),
-        }
+        Late { arrival: at(late) }
     }
 }
 

@@ -1,4 +1,5 @@
 ghost use mathlib.Core.Path.{_≡_};
+ghost use Prim.Native.Nat.{_+_, _*_, _%_, _^_};
 ghost use Rattle.gauge.specs.Count.{count-ops, count-delays};
 use crate::count::Count;
 use crate::gauges::Gauge;
@@ -9,6 +10,18 @@ impl Count {
         ensures { λ r. ⌜ r ≡ self .paths ⌝ }
     {
         self.paths
+    }
+
+    fn sum(self, other: Count) -> u32
+        ensures { λ r. ⌜ r ≡ (self .paths + other .paths) % 2 ^ 32 ⌝ }
+    {
+        self.paths.wrapping_add(other.paths)
+    }
+
+    fn product(self, other: Count) -> u32
+        ensures { λ r. ⌜ r ≡ (self .paths * other .paths) % 2 ^ 32 ⌝ }
+    {
+        self.paths.wrapping_mul(other.paths)
     }
 }
 
@@ -25,13 +38,13 @@ pub impl Semiring for Count as CountSemiring {
 
     fn plus(self, other: Count) -> Count {
         Count {
-            paths: self.paths.wrapping_add(other.paths),
+            paths: self.sum(other),
         }
     }
 
     fn times(self, other: Count) -> Count {
         Count {
-            paths: self.paths.wrapping_mul(other.paths),
+            paths: self.product(other),
         }
     }
 

@@ -1,14 +1,11 @@
-use mathlib.Core.List.{List}
 use mathlib.Core.Path.{_≡_, sym, ap}
-use Prim.Native.Nat.{ℕ}
-use lib.Chars.{codes}
 use Rattle.fault.specs.Causes.{sentenceOf}
 use Rattle.fault.specs.declared.cause.Cause.{Cause}
 use Rattle.fault.proofs.cause.Cause.sentence.Needs as need
 
 -- in the arm of a cause, that cause's sentence
-told : {cause arm : Cause} → cause ≡ arm → codes (sentenceOf arm) ≡ codes (sentenceOf cause)
-told e = sym (ap (λ x. codes (sentenceOf x)) e)
+told : {cause arm : Cause} → cause ≡ arm → sentenceOf arm ≡ sentenceOf cause
+told e = sym (ap sentenceOf e)
 
 pub returns-in-FileTooLong : need.returns-in-FileTooLong
 returns-in-FileTooLong c = told (c .in-FileTooLong .is)

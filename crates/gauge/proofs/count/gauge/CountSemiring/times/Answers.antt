@@ -1,6 +1,5 @@
-use mathlib.Core.Path.{refl}
 use Rattle.gauge.proofs.Counts.{count-same}
 use Rattle.gauge.proofs.count.gauge.CountSemiring.times.Needs as need
 
 pub returns : need.returns
-returns c = count-same refl
+returns c = count-same (c .product .ensures)
