@@ -1,5 +1,6 @@
 // Prints how late and early arrivals and the number of paths build up along a chain of delays.
 mod chain;
+mod turns;
 mod walk;
 
 use chain::parse_line;
@@ -14,6 +15,7 @@ use std::env;
 use std::error::AnyError;
 use std::fs;
 use std::io;
+use turns::show_turns;
 use walk::Walk;
 
 fn main(rt: LibcRuntime) -> Result<(), AnyError> {
@@ -45,6 +47,7 @@ fn run(rt: &LibcRuntime) -> Result<(), AnyError> {
     }
     println!(rt, "END")?;
     show(rt, walk)?;
+    show_turns(rt)?;
     Ok(())
 }
 
