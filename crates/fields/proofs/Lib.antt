@@ -1,0 +1,6 @@
+pub mod Back
+pub mod Numbers
+pub mod Opening
+pub mod Order
+pub mod Reading
+pub mod Refused

@@ -1,0 +1,7 @@
+mod Cycles
+mod Ends
+mod Marks
+mod Placing
+mod Searching
+mod Swapping
+mod Tallies

@@ -1,0 +1,11 @@
+pub mod Build
+pub mod Laws
+pub mod Limit
+pub mod Net
+pub mod Ranking
+pub mod Reach
+pub mod Search
+pub mod Senses
+pub mod Tally
+pub mod Truth
+pub mod Wiring
