@@ -1,0 +1,14 @@
+pub mod Firsts
+pub mod Passes
+pub mod Mentions
+pub mod Rowwise
+pub mod Shapes
+pub mod Judging
+pub mod Bodies
+pub mod Elements
+pub mod Ascending
+pub mod Stepwise
+pub mod Within
+pub mod Accepting
+mod Joining
+mod Meanings

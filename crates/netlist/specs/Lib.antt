@@ -1,0 +1,11 @@
+pub mod Limit
+pub mod Signals
+pub mod Statements
+pub mod Faults
+pub mod Effects
+pub mod Reading
+pub mod Views
+pub mod Answers
+pub mod Verdicts
+pub mod Examples
+pub mod Cycles

@@ -1,0 +1,4 @@
+pub mod Rows
+pub mod Settings
+pub mod Views
+pub mod Cover

@@ -1,0 +1,4 @@
+pub mod Text
+pub mod Words
+pub mod Refusals
+pub mod Views
