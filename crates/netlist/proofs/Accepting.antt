@@ -12,9 +12,7 @@ use Rattle.std.specs.shelf.Lists.{All, kept-by}
 use Rattle.std.proofs.shelf.Elements.{all-getD}
 use Rattle.std.proofs.shelf.Lists.{append-assoc, append-nil, getD-map, getD-past, getD-take, length-map}
 use Rattle.std.proofs.shelf.Tests.{cases-bool, cases-lt, cond-true, cond-false, not-false}
-use Rattle.fault.specs.declared.cause.Cause.the-variants.{FileTooLong}
 use Rattle.fault.specs.declared.refusal.Refusal.{Refusal}
-use Rattle.network.specs.Wiring as net
 use Rattle.network.specs.Wiring.{Driven, Wired, LatchesWired, absent, isDriven, pinCount, signalAtPin, Captures}
 use Rattle.network.specs.declared.signal.Driver as code
 use Rattle.network.specs.declared.signal.Driver.the-variants.{Undriven, Input, Latched, Gated}
@@ -24,7 +22,7 @@ use Rattle.text.specs.Words.{lexemeOf}
 use Rattle.netlist.specs.declared.stage.Stage.{Stage}
 use Rattle.netlist.specs.declared.stage.Stage.the-variants.{Before, Body, Rows, After}
 use Rattle.netlist.specs.Effects.{state, wordsEffect}
-use Rattle.netlist.specs.Faults.{State, fault, faultsOf, leastOf}
+use Rattle.netlist.specs.Faults.{State, faultsOf, leastOf}
 use Rattle.netlist.specs.Limit.{maxBytes}
 use Rattle.netlist.specs.Reading.{Reading, refused, ongoing, judged, step, stepOn, readLines, undrivenAt, Verdict, refuses, netlist, allDriven, closing, finished, read}
 use Rattle.netlist.specs.Signals.{Signal, Driver, isUndriven, noSignal}
@@ -116,7 +114,7 @@ words-within : (s : State) (ws : List Piece) → Within (s .signals) → Within 
 words-within s [] x = x
 words-within s (w ∷ ws) x = effect-within s (statementOf (lexemeOf w) ws) x
 
-pub accepted-within : (text : List ℕ) (ss : List Signal) → read text ≡ netlist ss → Within ss
+accepted-within : (text : List ℕ) (ss : List Signal) → read text ≡ netlist ss → Within ss
 accepted-within text ss e =
     let a = accepted text ss e in
     subst Within (a .1 .1 .0)
@@ -124,7 +122,7 @@ accepted-within text ss e =
 
 -- ---- drivers
 
-cons-nil : {A : Type 0} {x : A} {xs : List A} → x ∷ xs ≡ [] → ⊥
+pub cons-nil : {A : Type 0} {x : A} {xs : List A} → x ∷ xs ≡ [] → ⊥
 cons-nil {A} e = false≢true (ap (isNil {A = A}) e)
   where
     isNil : {A : Type 0} → List A → Bool

@@ -5,10 +5,8 @@ use mathlib.Core.List.{List, [], _∷_, _++_, map}
 use mathlib.Core.Logic.{_⊎_, inl, inr, ⊎-elim}
 use Prim.Native.Nat.{ℕ, zero, suc, _+_, _-_, _≤_, _<_}
 use native.Mathlib.Omega.{arith}
-use lib.Dec.{ltb}
 use lib.ListN.{length, drop}
-use Rattle.std.specs.declared.option.Option.{Option}
-use Rattle.std.specs.declared.option.Option.the-variants.{Some, None}
+use Rattle.std.specs.declared.option.Option.the-variants.{Some}
 use Rattle.std.specs.shelf.Lists.{All, kept-by}
 use Rattle.std.proofs.shelf.Elements.{all-append}
 use Rattle.std.proofs.shelf.Lists.{append-nil, append-assoc, drop-drop, drop-at, drop-map}
@@ -22,7 +20,7 @@ use Rattle.text.specs.Text.{Piece, solid, blank, solidFirst, begun, words, bad,
 use Rattle.text.specs.Words.{Lexeme, keyword, unknown, plain, lexemeOf, oneOf, isLong, placesOf, longNames}
 use Rattle.text.specs.declared.word.Command.{Command}
 use Rattle.text.specs.declared.word.Command.the-variants.{Model, Inputs, Outputs, Names, Latch, End}
-use Rattle.netlist.specs.Answers.{firstOf}
+use Rattle.netlist.specs.Outcomes.{firstOf}
 use Rattle.netlist.specs.Faults.{State, fault, onlyIf, outside, manyPins, tooMany, wrongRow, hasDriver, drivenTwice, ruleFaults, wordFaults, faultsOf, numberOfFault, precedes, least, leastOf}
 use Rattle.netlist.specs.Signals as signals
 use Rattle.netlist.specs.Signals.{Signal, mention, mentionAll, fresh}
@@ -32,7 +30,7 @@ use Rattle.netlist.proofs.Shapes.{front-last}
 
 -- ---- rising places
 
-abbrev pub Asc : ℕ → List ℕ → Type 0
+abbrev Asc : ℕ → List ℕ → Type 0
 Asc lo [] = Unit {0}
 Asc lo (p ∷ ps) = (lo ≤ p) × Asc (suc p) ps
 
@@ -106,7 +104,7 @@ begun-asc at b true [] x = (omega arith, tt)
 begun-asc at b true (w ∷ ws) x = let q = x .0 in (omega arith, asc-low (suc at) (suc (w .place)) (placesOf ws) (omega (arith, q)) (x .1))
 begun-asc at b false ws x = (omega arith, x)
 
-pub words-asc : (at : ℕ) (xs : List ℕ) → Asc at (placesOf (words at xs))
+words-asc : (at : ℕ) (xs : List ℕ) → Asc at (placesOf (words at xs))
 words-asc at [] = tt
 words-asc at (b ∷ bs) =
     let rest = words-asc (suc at) bs in
@@ -114,7 +112,7 @@ words-asc at (b ∷ bs) =
     (λ _. cond-both (blank b) (words (suc at) bs) [] (λ (ws : List Piece). Asc at (placesOf ws)) (λ _. asc-low at (suc at) (placesOf (words (suc at) bs)) (omega arith) rest) (λ _. tt))
 
 -- the names, the mentions and the drives of a statement stand in rising places
-abbrev pub Rising : ℕ → Statement → Type 0
+abbrev Rising : ℕ → Statement → Type 0
 Rising lo st = Asc lo (placesOf (namesOf st)) × (Asc lo (placesOf (mentionsOf st)) × Asc lo (placesOf (drivesOf st)))
 
 last-asc : (lo : ℕ) (w : Piece) (ws : List Piece) → Asc lo (placesOf (w ∷ ws)) → lo ≤ lastOf w ws .place
@@ -154,7 +152,7 @@ command-asc lo Names ws x = gate-asc lo ws x
 command-asc lo Latch ws x = latch-asc lo ws x
 command-asc lo End ws x = end-asc lo ws
 
-pub statement-asc : (lo : ℕ) (l : Lexeme) (ws : List Piece) → Asc lo (placesOf ws) → Rising lo (statementOf l ws)
+statement-asc : (lo : ℕ) (l : Lexeme) (ws : List Piece) → Asc lo (placesOf ws) → Rising lo (statementOf l ws)
 statement-asc lo (keyword c w) ws x = command-asc lo c ws x
 statement-asc lo (unknown w) ws x = (tt, (tt, tt))
 statement-asc lo (plain w) ws x = (tt, (tt, tt))

@@ -2,27 +2,24 @@
 use mathlib.Core.Path.{_≡_, refl, sym, ap, _∙_}
 use mathlib.Core.Bool.{Bool, true, false, not, cond, _||_}
 use mathlib.Core.List.{List, [], _∷_, _++_, map}
-use mathlib.Core.Logic.{⊎-elim}
-use Prim.Native.Nat.{ℕ, suc}
+use Prim.Native.Nat.{ℕ}
 use Rattle.std.specs.declared.option.Option.{Option}
 use Rattle.std.specs.declared.option.Option.the-variants.{Some, None}
 use Rattle.std.specs.declared.result.Result.{Result}
 use Rattle.std.specs.Results.{isErr, ErrBy}
-use Rattle.std.specs.shelf.Text.{sameBytes}
 use Rattle.std.proofs.shelf.Lists.{append-assoc}
-use Rattle.std.proofs.shelf.Tests.{cases-bool, cond-true, cond-false}
 use Rattle.fault.specs.declared.cause.Cause.the-variants.{BadLine, LongName, TooManyPins, TooManySignals, SecondDriver}
 use Rattle.fault.specs.declared.refusal.Refusal.{Refusal}
 use Rattle.text.specs.Text.{Piece}
 use Rattle.text.specs.Words.{oneOf, longNames}
 use Rattle.netlist.specs.declared.netlist_fault.NetlistFault.{NetlistFault}
 use Rattle.netlist.specs.declared.stage.Stage.{Stage}
-use Rattle.netlist.specs.Signals.{Signal, isUndriven, noSignal, numberOf, fresh, mention, mentionAll}
+use Rattle.netlist.specs.Signals.{Signal, isUndriven, mentionAll}
 use Rattle.netlist.specs.Faults.{State, fault, onlyIf, inBody, hasDotted, tooMany, hasDriver, drivenTwice}
 use Rattle.netlist.specs.Reading.{refused, ongoing, judged}
-use Rattle.netlist.specs.Answers.{firstOf, refusalOf, readingOn, nameFaults}
+use Rattle.netlist.specs.Outcomes.{firstOf, refusalOf, readingOn, nameFaults}
 use Rattle.netlist.proofs.Firsts.{err-is, first-on, first-stops}
-use lib.ListN.{getD}
+use Rattle.netlist.proofs.Looking.{mentions-look}
 
 -- a refusal that `?` carried on
 pub carried : (ss : List Signal) (r : Result Stage NetlistFault) (f : NetlistFault) → isErr r ≡ true → ErrBy r (λ e. e ≡ f) → readingOn ss r ≡ refused (refusalOf f)
@@ -30,33 +27,8 @@ carried ss r f e b = ap (readingOn ss) (err-is r f e b)
 
 -- ---- a mention gives no driver
 
-driver-cons : (s : Signal) (ss : List Signal) (n : List ℕ) → hasDriver (s ∷ ss) n ≡ cond (sameBytes (s .name .bytes) n) (not (isUndriven (s .driver))) (hasDriver ss n)
-driver-cons s ss n = at (sameBytes (s .name .bytes) n)
-  where
-    at : (b : Bool) → not (isUndriven (getD (s ∷ ss) (cond b 0 (suc (numberOf ss n))) noSignal .driver)) ≡ cond b (not (isUndriven (s .driver))) (hasDriver ss n)
-    at true = refl
-    at false = refl
-
-fresh-driver : (w : Piece) (n : List ℕ) → hasDriver (fresh w ∷ []) n ≡ false
-fresh-driver w n = driver-cons (fresh w) [] n ∙ at (sameBytes (w .bytes) n)
-  where
-    at : (b : Bool) → cond b false false ≡ false
-    at true = refl
-    at false = refl
-
-mention-driver : (ss : List Signal) (w : Piece) (n : List ℕ) → hasDriver (mention ss w) n ≡ hasDriver ss n
-mention-driver [] w n = fresh-driver w n
-mention-driver (s ∷ ss) w n =
-    ⊎-elim
-    (λ t. ap (λ (xs : List Signal). hasDriver xs n) (cond-true (sameBytes (s .name .bytes) (w .bytes)) (s ∷ ss) (s ∷ mention ss w) t))
-    (λ f. ap (λ (xs : List Signal). hasDriver xs n) (cond-false (sameBytes (s .name .bytes) (w .bytes)) (s ∷ ss) (s ∷ mention ss w) f)
-    ∙ (driver-cons s (mention ss w) n
-    ∙ (ap (λ (b : Bool). cond (sameBytes (s .name .bytes) n) (not (isUndriven (s .driver))) b) (mention-driver ss w n) ∙ sym (driver-cons s ss n))))
-    (cases-bool (sameBytes (s .name .bytes) (w .bytes)))
-
-pub mentions-driver : (ws : List Piece) (ss : List Signal) (n : List ℕ) → hasDriver (mentionAll ss ws) n ≡ hasDriver ss n
-mentions-driver [] ss n = refl
-mentions-driver (w ∷ ws) ss n = mentions-driver ws (mention ss w) n ∙ mention-driver ss w n
+mentions-driver : (ws : List Piece) (ss : List Signal) (n : List ℕ) → hasDriver (mentionAll ss ws) n ≡ hasDriver ss n
+mentions-driver = mentions-look (λ (s : Signal). not (isUndriven (s .driver))) (λ w. refl)
 
 twice-same : (xs ys : List Signal) → ((n : List ℕ) → hasDriver xs n ≡ hasDriver ys n) → (done : List (List ℕ)) (ws : List Piece) → drivenTwice xs done ws ≡ drivenTwice ys done ws
 twice-same xs ys h done [] = refl

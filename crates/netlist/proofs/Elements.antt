@@ -1,20 +1,18 @@
 -- Gates and latches, judged and then done. Assumes nothing.
-use mathlib.Core.Path.{_≡_, refl, sym, ap, _∙_}
+use mathlib.Core.Path.{_≡_, sym, ap, _∙_}
 use mathlib.Core.Bool.{Bool, true, false}
 use mathlib.Core.List.{List, [], _∷_, _++_}
 use Prim.Native.Nat.{ℕ, _-_, _≤_, _<_}
 use lib.Dec.{ltb}
 use lib.ListN.{length, getD, take, drop}
-use Rattle.std.specs.declared.option.Option.{Option}
 use Rattle.std.specs.declared.option.Option.the-variants.{Some, None}
 use Rattle.std.proofs.shelf.Lists.{length-map}
 use Rattle.fault.specs.declared.refusal.Refusal.{Refusal}
 use Rattle.network.specs.declared.span.Span.{Span}
 use Rattle.rows.specs.Rows.{noRows}
 use Rattle.text.specs.Text.{Piece}
-use Rattle.netlist.specs.declared.stage.Stage.{Stage}
 use Rattle.netlist.specs.declared.stage.Stage.the-variants.{Body, Rows}
-use Rattle.netlist.specs.Answers.{firstOf, nameFaults, firstJudged}
+use Rattle.netlist.specs.Outcomes.{firstOf, nameFaults, firstJudged}
 use Rattle.netlist.specs.Effects.{state, effect}
 use Rattle.netlist.specs.Faults.{State}
 use Rattle.netlist.specs.Reading.{refused, ongoing}

@@ -1,7 +1,7 @@
 -- The first of some faults. Assumes nothing.
-use mathlib.Core.Path.{_≡_, refl, sym, ap, _∙_}
+use mathlib.Core.Path.{_≡_, refl, sym, ap}
 use mathlib.Core.Bool.{Bool, true, false, false≢true}
-use mathlib.Core.List.{List, [], _∷_, _++_, map}
+use mathlib.Core.List.{List, [], _∷_, _++_}
 use Prim.Native.Nat.{ℕ}
 use Rattle.std.specs.declared.option.Option.{Option}
 use Rattle.std.specs.declared.option.Option.the-variants.{Some, None}
@@ -9,7 +9,7 @@ use Rattle.std.specs.declared.result.Result.{Result}
 use Rattle.std.specs.declared.result.Result.the-variants.{Ok, Err}
 use Rattle.std.specs.Results.{isErr, ErrBy}
 use Rattle.text.specs.Refusals.{refusing}
-use Rattle.netlist.specs.Answers.{firstOf}
+use Rattle.netlist.specs.Outcomes.{firstOf}
 
 abbrev isNone : {A : Type 0} → Option A → Bool
 isNone None = true

@@ -2,34 +2,33 @@
 use mathlib.Core.Path.{_≡_, refl, sym, ap, _∙_}
 use mathlib.Core.Bool.{Bool, true, false, not, _||_}
 use mathlib.Core.List.{List, [], _∷_, _++_, map}
-use Prim.Native.Nat.{ℕ, _≤_, _<_}
-use native.Mathlib.Omega.{arith}
+use Prim.Native.Nat.{ℕ, _≤_}
 use lib.ListN.{length, getD}
 use Rattle.std.specs.declared.option.Option.{Option}
 use Rattle.std.specs.declared.option.Option.the-variants.{Some, None}
 use Rattle.std.specs.declared.result.Result.{Result}
 use Rattle.std.specs.declared.result.Result.the-variants.{Ok, Err}
-use Rattle.fault.specs.declared.cause.Cause.{Cause}
 use Rattle.fault.specs.declared.cause.Cause.the-variants as cause
 use Rattle.fault.specs.declared.refusal.Refusal.{Refusal}
 use Rattle.network.specs.Limit.{maxSignals}
+use Rattle.rows.specs.Rows.{Row}
 use Rattle.text.specs.Text.{Piece}
 use Rattle.network.specs.declared.span.Span.{Span}
 use Rattle.text.specs.Words.{longNames}
 use Rattle.text.specs.Refusals as words
 use Rattle.text.specs.Refusals.{refusing}
 use Rattle.text.specs.declared.word_fault.WordFault.{WordFault}
-use Rattle.text.specs.declared.word_fault.WordFault.the-variants.{BadByte, LongName}
+use Rattle.text.specs.declared.word_fault.WordFault.the-variants.{LongName}
 use Rattle.netlist.specs.declared.stage.Stage.{Stage}
-use Rattle.netlist.specs.declared.stage.Stage.the-variants.{Before, Body, Rows, After}
+use Rattle.netlist.specs.declared.stage.Stage.the-variants.{Body, After}
 use Rattle.netlist.specs.Signals.{Signal}
 use Rattle.netlist.specs.Statements.{Statement, model, row, ending, wrong, modelOf, endOf}
 use Rattle.netlist.specs.Views.{pieceOn, pieces}
-use Rattle.netlist.specs.Faults.{State, fault, onlyIf, atStart, inBody, tooMany, rowStands, ruleFaults}
-use Rattle.netlist.specs.Effects.{state, effect, rowAt}
-use Rattle.netlist.specs.Reading.{Reading, refused, ongoing, judged}
-use Rattle.netlist.specs.Answers.{firstOf, firstJudged}
-use Rattle.netlist.proofs.Firsts.{some-none, ok-err, first-on, first-stops}
+use Rattle.netlist.specs.Faults.{State, fault, onlyIf, atStart, inBody, tooMany, goodRow, ruleFaults}
+use Rattle.netlist.specs.Effects.{state, effect, rowDone}
+use Rattle.netlist.specs.Reading.{refused, ongoing, judged}
+use Rattle.netlist.specs.Outcomes.{firstOf, firstJudged}
+use Rattle.netlist.proofs.Firsts.{ok-err, first-on, first-stops}
 use Rattle.netlist.proofs.Mentions.{few-none}
 use Rattle.netlist.proofs.Shapes.{list-none, list-one}
 
@@ -53,29 +52,29 @@ long-none (p ∷ ps) e = absurd (ok-err e)
 -- ---- a fault, or none
 
 module _ (s : State) (at : ℕ) (st : Statement) where
-  pub is-refused : {f : Refusal} → Some f ≡ firstOf (ruleFaults s at st) → refused f ≡ firstJudged s at st
+  is-refused : {f : Refusal} → Some f ≡ firstOf (ruleFaults s at st) → refused f ≡ firstJudged s at st
   is-refused e = ap (λ (o : Option Refusal). judged o (effect s st)) e
 
-  pub is-done : (now : State) → None ≡ firstOf (ruleFaults s at st) → now ≡ effect s st → ongoing now ≡ firstJudged s at st
+  is-done : (now : State) → None ≡ firstOf (ruleFaults s at st) → now ≡ effect s st → ongoing now ≡ firstJudged s at st
   is-done now e q = ap ongoing q ∙ ap (λ (o : Option Refusal). judged o (effect s st)) e
 
 -- no signal is too many
-pub few-first : (ss : List Signal) (fs : List Refusal) → length ss ≤ maxSignals → firstOf fs ≡ firstOf (map (fault cause.TooManySignals) (tooMany ss) ++ fs)
+few-first : (ss : List Signal) (fs : List Refusal) → length ss ≤ maxSignals → firstOf fs ≡ firstOf (map (fault cause.TooManySignals) (tooMany ss) ++ fs)
 few-first ss fs h = sym (ap (λ (ps : List ℕ). firstOf (map (fault cause.TooManySignals) ps ++ fs)) (few-none ss ss h refl))
 
 -- ---- a row
 
-module _ (g : Stage) (ss : List Signal) (at : ℕ) (ws : List Piece) (h : length ss ≤ maxSignals) where
-  row-first : (b : Bool) → b ≡ rowStands g ss ws → firstOf (map (fault cause.BadRow) (onlyIf (not b) at) ++ []) ≡ firstOf (ruleFaults (state g ss) at (row ws))
+module _ (g : Stage) (ss : List Signal) (at : ℕ) (r : Option Row) (h : length ss ≤ maxSignals) where
+  row-first : (b : Bool) → b ≡ goodRow g ss r → firstOf (map (fault cause.BadRow) (onlyIf (not b) at) ++ []) ≡ firstOf (ruleFaults (state g ss) at (row r))
   row-first b e =
       ap (λ (x : Bool). firstOf (map (fault cause.BadRow) (onlyIf (not x) at) ++ [])) e
-      ∙ few-first ss (map (fault cause.BadRow) (onlyIf (not (rowStands g ss ws)) at) ++ []) h
+      ∙ few-first ss (map (fault cause.BadRow) (onlyIf (not (goodRow g ss r)) at) ++ []) h
 
-  pub row-refused : false ≡ rowStands g ss ws → refused (fault cause.BadRow at) ≡ firstJudged (state g ss) at (row ws)
-  row-refused e = is-refused (state g ss) at (row ws) (row-first false e)
+  pub row-refused : false ≡ goodRow g ss r → refused (fault cause.BadRow at) ≡ firstJudged (state g ss) at (row r)
+  row-refused e = is-refused (state g ss) at (row r) (row-first false e)
 
-  pub row-done : (now : List Signal) → true ≡ rowStands g ss ws → now ≡ rowAt g ss ws → ongoing (state g now) ≡ firstJudged (state g ss) at (row ws)
-  row-done now e q = is-done (state g ss) at (row ws) (state g now) (row-first true e) (ap (state g) q)
+  pub row-taken : (now : List Signal) → true ≡ goodRow g ss r → now ≡ rowDone g ss r → ongoing (state g now) ≡ firstJudged (state g ss) at (row r)
+  row-taken now e q = is-done (state g ss) at (row r) (state g now) (row-first true e) (ap (state g) q)
 
 -- ---- a wrong line
 

@@ -1,6 +1,7 @@
 pub mod Firsts
 pub mod Passes
 pub mod Mentions
+pub mod Looking
 pub mod Rowwise
 pub mod Shapes
 pub mod Judging
@@ -10,5 +11,9 @@ pub mod Ascending
 pub mod Stepwise
 pub mod Within
 pub mod Accepting
+pub mod Endings
+pub mod Driving
+pub mod Naming
+pub mod Lawful
 mod Joining
 mod Meanings

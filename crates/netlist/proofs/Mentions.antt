@@ -1,13 +1,11 @@
 -- Signals by mention, and their changes. Assumes nothing.
 use mathlib.Core.Path.{_≡_, refl, sym, ap, _∙_}
-use mathlib.Core.Bool.{Bool, true, false, cond}
+use mathlib.Core.Bool.{false}
 use mathlib.Core.List.{List, [], _∷_, _++_, map}
 use mathlib.Core.Logic.{⊎-elim}
 use Prim.Native.Nat.{ℕ, suc, _+_, _≤_, _<_}
 use native.Mathlib.Omega.{arith}
 use lib.ListN.{length, getD, take, drop, set}
-use Rattle.std.specs.declared.option.Option.{Option}
-use Rattle.std.specs.declared.option.Option.the-variants.{Some, None}
 use Rattle.std.specs.shelf.Text.{sameBytes}
 use Rattle.std.proofs.shelf.Lists.{at-drop-more, at-drop-all, map-push, append-assoc, append-nil, take-more, take-more-set, take-all, map-set, set-past, getD-map, length-map, drop-at, drop-all}
 use Rattle.std.proofs.shelf.Tests.{cases-bool, cond-true, cond-false}
@@ -18,7 +16,6 @@ use Rattle.network.specs.Limit.{maxSignals}
 use Rattle.text.specs.Text.{Piece}
 use Rattle.netlist.specs.Signals.{Signal, numberOf, mention, mentionAll, fresh, changed, onNamed, onEach, numbers, noSignal}
 use Rattle.netlist.specs.Faults.{tooMany}
-use Rattle.netlist.specs.Answers.{firstOf}
 use Rattle.netlist.specs.Views.{pieceOn, pieces, signalOn, signalsOn}
 
 -- a name that is known, and one that is new
@@ -73,7 +70,7 @@ mention-grows (s ∷ ss) w =
     (λ f. (mention-grows ss w .0, cond-false (sameBytes (s .name .bytes) (w .bytes)) _ _ f ∙ ap {B = List Signal} (λ xs. s ∷ xs) (mention-grows ss w .1)))
     (cases-bool (sameBytes (s .name .bytes) (w .bytes)))
 
-pub all-grow : (ws : List Piece) (ss : List Signal) → (more : List Signal) × (mentionAll ss ws ≡ ss ++ more)
+all-grow : (ws : List Piece) (ss : List Signal) → (more : List Signal) × (mentionAll ss ws ≡ ss ++ more)
 all-grow [] ss = ([], sym (append-nil ss))
 all-grow (w ∷ ws) ss = (
   mention-grows ss w .0 ++ all-grow ws (mention ss w) .0,

@@ -2,7 +2,7 @@
 use mathlib.Core.Path.{_≡_, refl, sym, ap, _∙_}
 use mathlib.Core.Bool.{Bool, true, false, not, cond, _||_}
 use mathlib.Core.List.{List, [], _∷_, _++_, map}
-use mathlib.Core.Logic.{_⊎_, inl, inr, ⊎-elim}
+use mathlib.Core.Logic.{_⊎_, ⊎-elim}
 use Prim.Native.Nat.{ℕ, suc, _+_, _≤_, _<_}
 use native.Mathlib.Omega.{arith}
 use lib.ListN.{length, getD, take, drop}
@@ -28,9 +28,6 @@ use Rattle.netlist.specs.Views.{pieceOn, pieces, bytesOf, signalOn, signalsOn,
 -- what the checker reads past the end
 abbrev pub noSpan : Span
 noSpan = record { at = 0; len = 0 }
-
-abbrev pub noCode : Signal
-noCode = record { name = noSpan; driver = Undriven; output = false; captured = false }
 
 -- ---- one word more
 

@@ -1,15 +1,15 @@
 -- The words after a command, by their number. Assumes nothing.
 use mathlib.Core.Path.{_≡_, refl, sym, ap, _∙_}
-use mathlib.Core.Bool.{Bool, true, false, false≢true, cond, _&&_}
+use mathlib.Core.Bool.{Bool, true, false, false≢true, _&&_}
 use mathlib.Core.List.{List, [], _∷_, _++_}
-use Prim.Native.Nat.{ℕ, suc, _-_, _≤_, _<_}
+use Prim.Native.Nat.{ℕ, _-_, _≤_, _<_}
 use native.Mathlib.Omega.{arith}
 use lib.ListN.{length, getD, take, drop}
 use Rattle.std.proofs.shelf.Tests.{cond-true, cond-false}
 use Rattle.network.specs.declared.span.Span.{Span}
 use Rattle.text.specs.Text.{Piece}
 use Rattle.text.specs.Words.{oneOf, latchTypes, initialValues}
-use Rattle.netlist.specs.Statements.{Statement, gate, latch, wrong, frontOf, lastOf, gateOf, latchRest, latchOf}
+use Rattle.netlist.specs.Statements.{gate, latch, wrong, frontOf, lastOf, gateOf, latchRest, latchOf}
 use Rattle.netlist.specs.Views.{pieceOn, pieces}
 
 -- ---- lists of a known length

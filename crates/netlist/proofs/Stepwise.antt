@@ -4,15 +4,15 @@ use mathlib.Core.Bool.{Bool, true, false, not, cond}
 use mathlib.Core.List.{List, [], _∷_, _++_, map}
 use Prim.Native.Nat.{ℕ, _+_, _-_, _≤_, _<_}
 use native.Mathlib.Omega.{arith}
-use lib.ListN.{length, getD, take, drop}
+use lib.ListN.{length, getD, drop}
 use Rattle.std.specs.declared.option.Option.{Option}
 use Rattle.std.specs.declared.option.Option.the-variants.{Some, None}
 use Rattle.std.specs.declared.result.Result.{Result}
 use Rattle.std.specs.declared.result.Result.the-variants.{Ok, Err}
 use Rattle.std.specs.Iters.{folded}
-use Rattle.std.specs.shelf.Lists.{kept-by, leading}
+use Rattle.std.specs.shelf.Lists.{kept-by}
 use Rattle.std.proofs.shelf.Lists.{at-drop-more, at-drop-all}
-use Rattle.std.proofs.shelf.Tests.{cond-true, cond-false}
+use Rattle.std.proofs.shelf.Tests.{cond-both}
 use Rattle.fault.specs.declared.cause.Cause.the-variants as cause
 use Rattle.fault.specs.declared.refusal.Refusal.{Refusal}
 use Rattle.network.specs.Limit.{maxSignals}
@@ -24,40 +24,46 @@ use Rattle.text.specs.Refusals.{refusing}
 use Rattle.text.specs.Text as text
 use Rattle.text.specs.Text.{Piece, badPlaces}
 use Rattle.text.specs.Words.{Lexeme, keyword, unknown, plain, lexemeOf, known, dotted, commandNamed}
+use Rattle.text.specs.declared.word.Command.{Command}
 use Rattle.text.specs.declared.word_fault.WordFault.{WordFault}
 use Rattle.text.specs.declared.word_fault.WordFault.the-variants.{BadByte}
-use Rattle.netlist.specs.Answers.{firstOf, firstJudged, wordsJudged}
-use Rattle.netlist.specs.Effects.{state, wordsEffect}
-use Rattle.netlist.specs.Faults.{State, fault, wordFaults, faultsOf, leastOf}
+use Rattle.netlist.specs.Outcomes.{firstOf, firstJudged, wordsJudged}
+use Rattle.netlist.specs.Effects.{wordsEffect}
+use Rattle.netlist.specs.Faults.{State, fault, wordFaults}
 use Rattle.netlist.specs.Reading.{Reading, refused, ongoing, judged, step, stepOn, undrivenAt}
 use Rattle.netlist.specs.Signals.{Signal, isUndriven}
-use Rattle.netlist.specs.Statements.{statementOf, row}
+use Rattle.netlist.specs.Statements.{statementOf}
 use Rattle.netlist.specs.Views.{pieceOn, pieces, signalOn, signalsOn}
 use Rattle.netlist.proofs.Ascending.{first-is-least}
-use Rattle.netlist.proofs.Firsts.{ok-err, first-on, first-stops}
-use Rattle.netlist.proofs.Passes.{lexeme-dotted, undriven-is}
+use Rattle.netlist.proofs.Firsts.{ok-err, first-on}
+use Rattle.netlist.proofs.Passes.{undriven-is}
 
 -- ---- the words of a line
+
+-- the place of a lexeme's word
+abbrev placeIn : Lexeme → ℕ
+placeIn (keyword c w) = w .place
+placeIn (unknown w) = w .place
+placeIn (plain w) = w .place
+
+known-place : (o : Option Command) (w : Piece) → placeIn (known o w) ≡ w .place
+known-place None w = refl
+known-place (Some c) w = refl
+
+lexeme-place : (w : Piece) → placeIn (lexemeOf w) ≡ w .place
+lexeme-place w = cond-both (dotted (w .bytes)) (known (commandNamed (w .bytes)) w) (plain w) (λ (l : Lexeme). placeIn l ≡ w .place) (λ _. known-place (commandNamed (w .bytes)) w) (λ _. refl)
 
 module _ (t : List ℕ) (s : State) where
   pub words-none : (xs : List Span) → length xs ≡ 0 → ongoing s ≡ wordsJudged s (pieces t xs)
   words-none [] h = refl
   words-none (a ∷ xs) h = absurd (omega arith)
 
-  pub words-some : (xs rs : List Span) (d : Span) (l : Lexeme) (w : Piece) → 0 < length xs → rs ≡ drop 1 xs → w ≡ pieceOn t (getD xs 0 d) → l ≡ lexemeOf w → firstJudged s (getD xs 0 d .at) (statementOf l (pieces t rs)) ≡ wordsJudged s (pieces t xs)
+  pub words-some : (xs rs : List Span) (d : Span) (l : Lexeme) (w : Piece) → 0 < length xs → rs ≡ drop 1 xs → w ≡ pieceOn t (getD xs 0 d) → l ≡ lexemeOf w → firstJudged s (placeIn l) (statementOf l (pieces t rs)) ≡ wordsJudged s (pieces t xs)
   words-some [] rs d l w h q e f = absurd (omega arith)
   words-some (a ∷ xs) rs d l w h q e f =
-      ap (λ (ys : List Span). firstJudged s (a .at) (statementOf l (pieces t ys))) q
-      ∙ ap (λ (x : Lexeme). firstJudged s (a .at) (statementOf x (pieces t xs))) (f ∙ ap lexemeOf e)
-
-  plain-is : (w x : Piece) → plain x ≡ lexemeOf w → plain w ≡ lexemeOf w
-  plain-is w x e = sym (cond-false (dotted (w .bytes)) (known (commandNamed (w .bytes)) w) (plain w) (sym (lexeme-dotted w (plain x) e)))
-
-  pub words-row : (xs : List Span) (d : Span) (w x : Piece) → 0 < length xs → w ≡ pieceOn t (getD xs 0 d) → plain x ≡ lexemeOf w → firstJudged s (getD xs 0 d .at) (row (pieces t xs)) ≡ wordsJudged s (pieces t xs)
-  words-row [] d w x h e f = absurd (omega arith)
-  words-row (a ∷ xs) d w x h e f =
-      ap (λ (p : Piece). firstJudged s (a .at) (row (p ∷ pieces t xs))) (sym e)
-      ∙ words-some (a ∷ xs) xs d (plain w) w h refl e (plain-is w x f)
+      ap (λ (ys : List Span). firstJudged s (placeIn l) (statementOf l (pieces t ys))) q
+      ∙ (ap (λ (x : Lexeme). firstJudged s (placeIn x) (statementOf x (pieces t xs))) (f ∙ ap lexemeOf e)
+      ∙ ap (λ (k : ℕ). firstJudged s k (statementOf (lexemeOf (pieceOn t a)) (pieces t xs))) (lexeme-place (pieceOn t a)))
 
 -- ---- a whole line
 

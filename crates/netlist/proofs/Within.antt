@@ -1,11 +1,11 @@
 -- What drives a signal names signals that are there. Assumes nothing.
 use mathlib.Core.Path.{_≡_, refl, sym, ap, subst, _∙_}
-use mathlib.Core.Bool.{Bool, true, false, cond}
-use mathlib.Core.List.{List, [], _∷_, _++_, map}
+use mathlib.Core.Bool.{true, false, cond}
+use mathlib.Core.List.{List, [], _∷_, _++_}
 use mathlib.Core.Logic.{_⊎_, inl, inr, ⊎-elim}
 use Prim.Native.Nat.{ℕ, suc, _+_, _≤_, _<_}
 use native.Mathlib.Omega.{arith}
-use lib.ListN.{length, getD, set, length-set, length-append}
+use lib.ListN.{length, getD, length-set, length-append}
 use Rattle.std.specs.declared.option.Option.{Option}
 use Rattle.std.specs.declared.option.Option.the-variants.{Some, None}
 use Rattle.std.specs.shelf.Lists.{All}
@@ -18,8 +18,8 @@ use Rattle.rows.specs.Rows.{Row}
 use Rattle.text.specs.Text.{Piece}
 use Rattle.netlist.specs.declared.stage.Stage.{Stage}
 use Rattle.netlist.specs.declared.stage.Stage.the-variants.{Before, Body, Rows, After}
-use Rattle.netlist.specs.Effects.{joined, addRow, rowAt, done, effect}
-use Rattle.netlist.specs.Faults.{State, rowOf}
+use Rattle.netlist.specs.Effects.{rowed, addRow, rowAt, rowDone, done, effect}
+use Rattle.netlist.specs.Faults.{State}
 use Rattle.netlist.specs.Signals.{Signal, Driver, undriven, input, latched, gates, numberOf, fresh, mention, mentionAll, changed, onNamed, onEach, noSignal, driven, asOutput, asCaptured, numbers}
 use Rattle.netlist.specs.Statements.{Statement, model, inputs, outputs, gate, latch, row, ending, wrong, mentionsOf}
 use Rattle.netlist.proofs.Ascending.{mention-ways}
@@ -45,16 +45,16 @@ known-append (s ∷ ss) more n h =
     (λ f. ap (λ (k : ℕ). cond (sameBytes (s .name .bytes) n) 0 (suc k)) (known-append ss more n (f .1)))
     (known-cons s ss n h)
 
-pub number-mention : (ss : List Signal) (w : Piece) (n : List ℕ) → Known ss n → numberOf (mention ss w) n ≡ numberOf ss n
+number-mention : (ss : List Signal) (w : Piece) (n : List ℕ) → Known ss n → numberOf (mention ss w) n ≡ numberOf ss n
 number-mention ss w n h = ⊎-elim (λ e. ap (λ (xs : List Signal). numberOf xs n) e) (λ e. ap (λ (xs : List Signal). numberOf xs n) e ∙ known-append ss (fresh w ∷ []) n h) (mention-ways ss w)
 
 longer : (ss : List Signal) (w : Piece) → length ss ≤ length (mention ss w)
 longer ss w = ⊎-elim (λ e. omega (arith, ap length e)) (λ e. omega (arith, ap length e, length-append ss (fresh w ∷ []))) (mention-ways ss w)
 
-pub known-more : (ss : List Signal) (w : Piece) (n : List ℕ) → Known ss n → Known (mention ss w) n
+known-more : (ss : List Signal) (w : Piece) (n : List ℕ) → Known ss n → Known (mention ss w) n
 known-more ss w n h = omega (arith, number-mention ss w n h, longer ss w)
 
-pub known-here : (ss : List Signal) (w : Piece) → Known (mention ss w) (w .bytes)
+known-here : (ss : List Signal) (w : Piece) → Known (mention ss w) (w .bytes)
 known-here [] w = omega (arith, cond-true {A = ℕ} (sameBytes (w .bytes) (w .bytes)) 0 1 (same-self (w .bytes)))
 known-here (s ∷ ss) w =
     ⊎-elim
@@ -62,7 +62,7 @@ known-here (s ∷ ss) w =
     (λ f. subst (λ (xs : List Signal). Known xs (w .bytes)) (sym (cond-false (sameBytes (s .name .bytes) (w .bytes)) (s ∷ ss) (s ∷ mention ss w) f)) (omega (arith, known-here ss w, cond-false (sameBytes (s .name .bytes) (w .bytes)) 0 (suc (numberOf (mention ss w) (w .bytes))) f)))
     (cases-bool (sameBytes (s .name .bytes) (w .bytes)))
 
-pub known-all : (ws : List Piece) (ss : List Signal) (n : List ℕ) → Known ss n → Known (mentionAll ss ws) n
+known-all : (ws : List Piece) (ss : List Signal) (n : List ℕ) → Known ss n → Known (mentionAll ss ws) n
 known-all [] ss n h = h
 known-all (w ∷ ws) ss n h = known-all ws (mention ss w) n (known-more ss w n h)
 
@@ -73,7 +73,7 @@ pub mentioned-all : (ws : List Piece) (ss : List Signal) → Mentioned (mentionA
 mentioned-all [] ss = tt
 mentioned-all (w ∷ ws) ss = (known-all ws (mention ss w) (w .bytes) (known-here ss w), mentioned-all ws (mention ss w))
 
-mentioned-parts : (ss : List Signal) (ps qs : List Piece) → Mentioned ss (ps ++ qs) → Mentioned ss ps × Mentioned ss qs
+pub mentioned-parts : (ss : List Signal) (ps qs : List Piece) → Mentioned ss (ps ++ qs) → Mentioned ss ps × Mentioned ss qs
 mentioned-parts ss [] qs x = (tt, x)
 mentioned-parts ss (p ∷ ps) qs x = let r = mentioned-parts ss ps qs (x .1) in ((x .0, r .0), r .1)
 
@@ -104,7 +104,7 @@ mention-within ss w x =
     (all-append (SignalWithin (length (ss ++ fresh w ∷ []))) ss (fresh w ∷ []) (all-weaker (SignalWithin (length ss)) (SignalWithin (length (ss ++ fresh w ∷ []))) (λ s. driver-more (length ss) (length (ss ++ fresh w ∷ [])) (omega (arith, length-append ss (fresh w ∷ []))) (s .driver)) ss x) (tt, tt)))
     (mention-ways ss w)
 
-pub mentions-within : (ws : List Piece) (ss : List Signal) → Within ss → Within (mentionAll ss ws)
+mentions-within : (ws : List Piece) (ss : List Signal) → Within ss → Within (mentionAll ss ws)
 mentions-within [] ss x = x
 mentions-within (w ∷ ws) ss x = mentions-within ws (mention ss w) (mention-within ss w x)
 
@@ -123,21 +123,24 @@ each-within : (f : Signal → Signal) (ws : List Piece) (ss : List Signal) → (
 each-within f [] ss h x = x
 each-within f (w ∷ ws) ss h x = each-within f ws (onNamed f ss w) h (changed-within f ss (numberOf ss (w .bytes)) (h (length ss)) x)
 
-joined-within : (n : ℕ) (d : Driver) (r : Row) → DriverWithin n d → DriverWithin n (joined d r)
-joined-within n undriven r x = tt
-joined-within n input r x = tt
-joined-within n (latched d ws) r x = x
-joined-within n (gates ps c) r x = x
+rowed-within : (n : ℕ) (d : Driver) (r : Row) → DriverWithin n d → DriverWithin n (rowed d r)
+rowed-within n undriven r x = tt
+rowed-within n input r x = tt
+rowed-within n (latched d ws) r x = x
+rowed-within n (gates ps c) r x = x
 
-row-within : (r : Option Row) (n : ℕ) → Keeps n (addRow r)
-row-within None n s x = x
-row-within (Some r) n s x = joined-within n (s .driver) r x
+row-within : (r : Row) (n : ℕ) → Keeps n (addRow r)
+row-within r n s x = rowed-within n (s .driver) r x
 
-rowAt-within : (g : Stage) (ss : List Signal) (ws : List Piece) → Within ss → Within (rowAt g ss ws)
-rowAt-within Before ss ws x = x
-rowAt-within Body ss ws x = x
-rowAt-within (Rows k) ss ws x = changed-within (addRow (rowOf ws)) ss k (row-within (rowOf ws) (length ss)) x
-rowAt-within After ss ws x = x
+rowAt-within : (g : Stage) (ss : List Signal) (r : Row) → Within ss → Within (rowAt g ss r)
+rowAt-within Before ss r x = x
+rowAt-within Body ss r x = x
+rowAt-within (Rows k) ss r x = changed-within (addRow r) ss k (row-within r (length ss)) x
+rowAt-within After ss r x = x
+
+rowDone-within : (g : Stage) (ss : List Signal) (r : Option Row) → Within ss → Within (rowDone g ss r)
+rowDone-within g ss None x = x
+rowDone-within g ss (Some r) x = rowAt-within g ss r x
 
 done-within : (g : Stage) (ss : List Signal) (st : Statement) → Mentioned ss (mentionsOf st) → Within ss → Within (done g ss st .signals)
 done-within g ss (model n) m x = x
@@ -147,7 +150,7 @@ done-within g ss (gate ps q) m x = changed-within (driven (gates (numbers ss ps)
 done-within g ss (latch d q ws) m x =
     let mid = onNamed (driven (latched (numberOf ss (d .bytes)) ws)) ss q in
     changed-within asCaptured mid (numberOf mid (d .bytes)) (λ s y. y) (changed-within (driven (latched (numberOf ss (d .bytes)) ws)) ss (numberOf ss (q .bytes)) (λ s y. m .0) x)
-done-within g ss (row ws) m x = rowAt-within g ss ws x
+done-within g ss (row r) m x = rowDone-within g ss r x
 done-within g ss ending m x = x
 done-within g ss wrong m x = x
 

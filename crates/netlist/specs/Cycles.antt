@@ -10,7 +10,7 @@ use Rattle.network.specs.Net.{signals}
 use Rattle.network.specs.Reach.{Reaches}
 use Rattle.network.specs.declared.network.Network.{Network}
 use Rattle.netlist.specs.declared.netlist_fault.NetlistFault.{NetlistFault}
-use Rattle.netlist.specs.Answers.{refusalOf}
+use Rattle.netlist.specs.Outcomes.{refusalOf}
 use Rattle.netlist.specs.Signals.{Driver, undriven, input, latched, gates, Signal, noSignal}
 use Rattle.netlist.specs.Faults.{fault}
 use Rattle.netlist.specs.Reading.{Verdict, refuses, netlist, read}

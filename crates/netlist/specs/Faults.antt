@@ -52,7 +52,7 @@ placed s (inputs ns) = inBody s
 placed s (outputs ns) = inBody s
 placed s (gate ps q) = inBody s
 placed s (latch d q ws) = inBody s
-placed s (row ws) = true
+placed s (row r) = true
 placed s ending = inBody s
 placed s wrong = false
 
@@ -71,7 +71,7 @@ manyPins (inputs ns) = false
 manyPins (outputs ns) = false
 manyPins (gate ps q) = ltb 4 (length ps)
 manyPins (latch d q ws) = false
-manyPins (row ws) = false
+manyPins (row r) = false
 manyPins ending = false
 manyPins wrong = false
 
@@ -81,29 +81,22 @@ tooMany ss = map (λ (s : Signal). s .name .place) (drop maxSignals ss)
 
 -- ---- rows
 
--- the marks and the last word, or the last word alone, which is the row of a gate without pins: a word has a byte at least
-abbrev pub rowOf : List Piece → Option Row
-rowOf [] = None
-rowOf (v ∷ []) = Some (record { marks = []; value = v .bytes })
-rowOf (m ∷ v ∷ []) = Some (record { marks = m .bytes; value = v .bytes })
-rowOf (m ∷ v ∷ w ∷ ws) = None
-
 abbrev pub rowJoins : Driver → Row → Bool
 rowJoins undriven r = false
 rowJoins input r = false
 rowJoins (latched d ws) r = false
 rowJoins (gates ps c) r = rowFits (length ps) c r
 
-abbrev pub joins : Driver → Option Row → Bool
-joins d None = false
-joins d (Some r) = rowJoins d r
-
 -- a row follows .names or another row
-abbrev pub rowStands : Stage → List Signal → List Piece → Bool
-rowStands Before ss ws = false
-rowStands Body ss ws = false
-rowStands (Rows g) ss ws = joins (getD ss g noSignal .driver) (rowOf ws)
-rowStands After ss ws = false
+abbrev pub rowStands : Stage → List Signal → Row → Bool
+rowStands Before ss r = false
+rowStands Body ss r = false
+rowStands (Rows g) ss r = rowJoins (getD ss g noSignal .driver) r
+rowStands After ss r = false
+
+abbrev pub goodRow : Stage → List Signal → Option Row → Bool
+goodRow g ss None = false
+goodRow g ss (Some r) = rowStands g ss r
 
 abbrev pub wrongRow : State → Statement → Bool
 wrongRow s (model n) = false
@@ -111,7 +104,7 @@ wrongRow s (inputs ns) = false
 wrongRow s (outputs ns) = false
 wrongRow s (gate ps q) = false
 wrongRow s (latch d q ws) = false
-wrongRow s (row ws) = not (rowStands (s .stage) (s .signals) ws)
+wrongRow s (row r) = not (goodRow (s .stage) (s .signals) r)
 wrongRow s ending = false
 wrongRow s wrong = false
 

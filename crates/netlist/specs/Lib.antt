@@ -5,7 +5,8 @@ pub mod Faults
 pub mod Effects
 pub mod Reading
 pub mod Views
-pub mod Answers
+pub mod Outcomes
 pub mod Verdicts
 pub mod Examples
+pub mod Laws
 pub mod Cycles

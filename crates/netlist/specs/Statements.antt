@@ -1,8 +1,11 @@
 -- A line's words as a statement.
 use mathlib.Core.Bool.{Bool, true, false, cond, _&&_}
 use mathlib.Core.List.{List, [], _∷_, _++_}
+use Rattle.std.specs.declared.option.Option.{Option}
+use Rattle.std.specs.declared.option.Option.the-variants.{Some, None}
 use Rattle.text.specs.Text.{Piece}
 use Rattle.text.specs.Words.{Lexeme, keyword, unknown, plain, oneOf, latchTypes, initialValues}
+use Rattle.rows.specs.Rows.{Row}
 use Rattle.text.specs.declared.word.Command.{Command}
 use Rattle.text.specs.declared.word.Command.the-variants.{Model, Inputs, Outputs, Names, Latch, End}
 
@@ -14,7 +17,8 @@ pub data Statement : Type 0 where
   gate : List Piece → Piece → Statement
   -- the data, the output and the words after it
   latch : Piece → Piece → List Piece → Statement
-  row : List Piece → Statement
+  -- a row, if the words are one
+  row : Option Row → Statement
   ending : Statement
   wrong : Statement
 
@@ -57,6 +61,13 @@ abbrev pub endOf : List Piece → Statement
 endOf [] = ending
 endOf (w ∷ ws) = wrong
 
+-- the marks and the last word, or the last word alone, which is the row of a gate without pins: a word has a byte at least
+abbrev pub rowOf : List Piece → Option Row
+rowOf [] = None
+rowOf (v ∷ []) = Some (record { marks = []; value = v .bytes })
+rowOf (m ∷ v ∷ []) = Some (record { marks = m .bytes; value = v .bytes })
+rowOf (m ∷ v ∷ w ∷ ws) = None
+
 -- what follows a command word
 abbrev pub commandOf : Command → List Piece → Statement
 commandOf Model ws = modelOf ws
@@ -70,7 +81,7 @@ commandOf End ws = endOf ws
 abbrev pub statementOf : Lexeme → List Piece → Statement
 statementOf (keyword c w) ws = commandOf c ws
 statementOf (unknown w) ws = wrong
-statementOf (plain w) ws = row (w ∷ ws)
+statementOf (plain w) ws = row (rowOf (w ∷ ws))
 
 -- the words that mention signals, in their order
 abbrev pub mentionsOf : Statement → List Piece
@@ -79,7 +90,7 @@ mentionsOf (inputs ns) = ns
 mentionsOf (outputs ns) = ns
 mentionsOf (gate ps q) = ps ++ q ∷ []
 mentionsOf (latch d q ws) = d ∷ q ∷ []
-mentionsOf (row ws) = []
+mentionsOf (row r) = []
 mentionsOf ending = []
 mentionsOf wrong = []
 
@@ -90,7 +101,7 @@ drivesOf (inputs ns) = ns
 drivesOf (outputs ns) = []
 drivesOf (gate ps q) = q ∷ []
 drivesOf (latch d q ws) = q ∷ []
-drivesOf (row ws) = []
+drivesOf (row r) = []
 drivesOf ending = []
 drivesOf wrong = []
 
@@ -101,6 +112,6 @@ namesOf (inputs ns) = ns
 namesOf (outputs ns) = ns
 namesOf (gate ps q) = ps ++ q ∷ []
 namesOf (latch d q ws) = d ∷ q ∷ []
-namesOf (row ws) = []
+namesOf (row r) = []
 namesOf ending = []
 namesOf wrong = []

@@ -8,7 +8,7 @@ use Rattle.netlist.specs.declared.draft.Draft.{Draft}
 use Rattle.netlist.specs.declared.netlist_fault.NetlistFault.{NetlistFault}
 use Rattle.netlist.specs.Signals.{Signal}
 use Rattle.netlist.specs.Reading.{Verdict, refuses, netlist}
-use Rattle.netlist.specs.Answers.{refusalOf}
+use Rattle.netlist.specs.Outcomes.{refusalOf}
 use Rattle.netlist.specs.Views.{signalsOn}
 
 -- what the end of the text says of these signals

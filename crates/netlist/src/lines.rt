@@ -11,7 +11,7 @@ ghost use Rattle.netlist.specs.Statements.{commandOf};
 ghost use Rattle.netlist.specs.Effects.{state};
 ghost use Rattle.netlist.specs.Reading as reading;
 ghost use Rattle.netlist.specs.Views.{pieces, signalsOn};
-ghost use Rattle.netlist.specs.Answers.{readingOn, firstJudged, wordsJudged};
+ghost use Rattle.netlist.specs.Outcomes.{readingOn, firstJudged, wordsJudged};
 use crate::netlist_fault::NetlistFault;
 use crate::netlist_fault::NetlistFaultFromWord;
 use crate::rowing::read_row;
@@ -71,11 +71,10 @@ fn read_words(
     let [first, rest @ ..] = words else {
         return Ok(stage);
     };
-    let at = first.at;
     match token_of(word_at(text, *first)) {
-        Token::Keyword(command, _) => read_command(text, signals, stage, at, command, rest),
-        Token::Dotted(_) => Err(NetlistFault::new(Cause::BadLine, at)),
-        Token::Plain(_) => read_row(text, signals, stage, at, words),
+        Token::Keyword(command, word) => read_command(text, signals, stage, word.at, command, rest),
+        Token::Dotted(word) => Err(NetlistFault::new(Cause::BadLine, word.at)),
+        Token::Plain(word) => read_row(text, signals, stage, word, rest),
     }
 }
 

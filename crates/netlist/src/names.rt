@@ -11,7 +11,7 @@ ghost use Rattle.network.specs.Wiring.{isDriven};
 ghost use Rattle.netlist.specs.Signals.{numberOf};
 ghost use Rattle.netlist.specs.Faults.{hasDotted, hasDriver, drivenTwice, fault};
 ghost use Rattle.netlist.specs.Views.{pieceOn, pieces, signalsOn, bytesOf};
-ghost use Rattle.netlist.specs.Answers.{firstOf, refusal};
+ghost use Rattle.netlist.specs.Outcomes.{firstOf, refusal};
 use crate::netlist_fault::NetlistFault;
 use crate::spans::word_at;
 use fault::cause::Cause;
@@ -103,6 +103,7 @@ pub fn check_driver(text: &[u8], signals: &[Signal], name: Span) -> Result<(), N
 }
 
 /// Refuses the first of the names that has a driver already, or stands among those before it.
+/// Only names of signals are asked for, so that after at most as many names as signals one repeats.
 pub fn check_drivers(text: &[u8], signals: &[Signal], names: &[Span]) -> Result<(), NetlistFault>
     ensures { λ r. ⌜ refusal r ≡ firstOf (map (fault cause.SecondDriver) (drivenTwice (signalsOn (now (text .entry)) (now (signals .entry))) [] (pieces (now (text .entry)) (now (names .entry))))) ⌝ }
 {

@@ -1,7 +1,7 @@
 ghost use mathlib.Core.Path.{_≡_};
 ghost use Rattle.netlist.specs.Faults as faults;
 ghost use Rattle.netlist.specs.declared.netlist_fault.NetlistFault.{NetlistFault};
-ghost use Rattle.netlist.specs.Answers.{refusalOf};
+ghost use Rattle.netlist.specs.Outcomes.{refusalOf};
 use fault::cause::Cause;
 use fault::refusal::Refusal;
 use fault::refusal::RefusalDebug;

@@ -1,15 +1,13 @@
 // Reading a netlist.
 ghost use mathlib.Core.Path.{_≡_};
-ghost use mathlib.Core.List.{List, []};
+ghost use mathlib.Core.List.{List};
 ghost use Prim.Native.Nat.{ℕ, _≤_};
 ghost use lib.ListN.{length};
 ghost use Rattle.std.specs.Of.Vec.{vec-items, vec-len, vec-cap};
 ghost use Rattle.std.specs.Vec.{made};
 ghost use Rattle.std.specs.Iters.{folded};
-ghost use Rattle.fault.specs.declared.cause.Cause.the-variants as cause;
 ghost use Rattle.network.specs.Limit.{maxSignals};
 ghost use Rattle.network.specs.Wiring.{Driven, Wired, LatchesWired};
-ghost use Rattle.text.specs.Refusals.{refusing};
 ghost use Rattle.text.specs.Text.{lines};
 ghost use Rattle.netlist.specs.declared.stage.Stage.the-variants.{Before};
 ghost use Rattle.netlist.specs.Effects.{state};
@@ -17,7 +15,7 @@ ghost use Rattle.netlist.specs.Limit.{maxBytes};
 ghost use Rattle.netlist.specs.Reading as reading;
 ghost use Rattle.netlist.specs.Reading.{stepOn, ongoing, undrivenAt, closing};
 ghost use Rattle.netlist.specs.Views.{signalsOn};
-ghost use Rattle.netlist.specs.Answers.{readingOn};
+ghost use Rattle.netlist.specs.Outcomes.{readingOn};
 ghost use Rattle.netlist.specs.Verdicts.{closedOn, verdictOn};
 use crate::draft::Draft;
 use crate::limit::MAX_BYTES;

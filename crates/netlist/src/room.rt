@@ -12,11 +12,11 @@ use std::alloc::Global;
 /// The memory of one network and of its reading.
 #[derive(Drop)]
 pub struct Room {
-    pub signals: Vec<Signal>,
+    pub(crate) signals: Vec<Signal>,
     /// the words of a line
-    pub words: Vec<Span>,
-    pub turn_of: Vec<u16>,
-    pub order: Vec<u16>,
+    pub(crate) words: Vec<Span>,
+    pub(crate) turn_of: Vec<u16>,
+    pub(crate) order: Vec<u16>,
     ghost named: { maxSignals ≤ vec-cap signals },
     ghost line: { maxBytes ≤ vec-cap words },
     ghost turns: { maxSignals ≤ vec-cap «turn_of» },

@@ -12,7 +12,7 @@ ghost use Rattle.netlist.specs.Signals as spec;
 ghost use Rattle.netlist.specs.Signals.{mentionAll, onNamed, onEach, numbers};
 ghost use Rattle.netlist.specs.Faults.{fault, tooMany};
 ghost use Rattle.netlist.specs.Views.{pieceOn, pieces, signalOn, signalsOn, changeOn};
-ghost use Rattle.netlist.specs.Answers.{firstOf, refusal};
+ghost use Rattle.netlist.specs.Outcomes.{firstOf, refusal};
 use crate::change::Change;
 use crate::names::number_of;
 use crate::netlist_fault::NetlistFault;

@@ -12,7 +12,7 @@ ghost use Rattle.netlist.specs.Statements.{inputs, outputs, modelOf, gateOf, l
 ghost use Rattle.netlist.specs.Faults.{atStart, inBody};
 ghost use Rattle.netlist.specs.Effects.{state};
 ghost use Rattle.netlist.specs.Views.{pieces, signalsOn, triggerWords, initialWord};
-ghost use Rattle.netlist.specs.Answers.{firstOf, refusal, readingOn, nameFaults, firstJudged};
+ghost use Rattle.netlist.specs.Outcomes.{firstOf, refusal, readingOn, nameFaults, firstJudged};
 use crate::change::Change;
 use crate::names::check_driver;
 use crate::names::check_drivers;

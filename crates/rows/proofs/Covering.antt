@@ -2,7 +2,7 @@
 use mathlib.Core.Path.{_≡_, refl, sym, ap, _∙_}
 use mathlib.Core.Bool.{Bool, true, false, _||_}
 use mathlib.Core.List.{List, [], _∷_, map}
-use Prim.Native.Nat.{ℕ, zero, suc, max, _+_, _<_}
+use Prim.Native.Nat.{ℕ, zero, suc, max, _<_}
 use native.Mathlib.Omega.{arith}
 use lib.Dec.{eqb}
 use lib.ListN.{getD}
@@ -14,7 +14,7 @@ use Rattle.std.proofs.shelf.Lists.{same-lists}
 use Rattle.text.specs.Words.{anyOf}
 use Rattle.rows.specs.Rows.{Row, Cover, withRow, noRows, isOne, matches, settings}
 use Rattle.rows.specs.Settings.{bitOf, one}
-use Rattle.rows.specs.Cover.{afterRows, Rows-cover}
+use Rattle.rows.specs.Cover.{Rows-cover}
 
 same-map : (f g : ℕ → Bool) → ((s : ℕ) → s < 16 → f s ≡ g s) → map f (counting 0 16) ≡ map g (counting 0 16)
 same-map f g h =

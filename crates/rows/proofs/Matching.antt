@@ -1,18 +1,17 @@
 -- Marks against a setting, and settings as bits. Assumes nothing.
 use mathlib.Core.Path.{_≡_, refl, sym, ap, _∙_}
-use mathlib.Core.Bool.{Bool, true, false, not, cond, _&&_}
-use mathlib.Core.List.{List, [], _∷_}
-use mathlib.Core.Logic.{_⊎_, inl, inr, ⊎-elim}
-use Prim.Native.Nat.{ℕ, zero, suc, max, _+_, _-_, _*_, _/_, _%_, _^_, _≤_, _<_}
+use mathlib.Core.Bool.{Bool, true, false, _&&_}
+use mathlib.Core.List.{List}
+use mathlib.Core.Logic.{_⊎_, ⊎-elim}
+use Prim.Native.Nat.{ℕ, suc, max, _+_, _-_, _*_, _/_, _%_, _^_, _≤_, _<_}
 use native.Mathlib.Nat.{one-mul}
 use native.Mathlib.Omega.{arith}
 use lib.Bits.{bitOr, or-shr, or-step, shifted-even}
-use lib.Pow.{pow-mono}
-use lib.Dec.{eqb, ltb}
+use lib.Dec.{ltb}
 use lib.ListN.{length, getD, drop}
 use Rattle.std.proofs.shelf.Lists.{at-drop-more, at-drop-all}
 use Rattle.std.proofs.shelf.Bits.{mod-mul-add, shl-shr, shr-below, pow-add, pow-below, one-shl, mod-below}
-use Rattle.std.proofs.shelf.Tests.{and-left, cases-order, lt-ltb, le-ltb, eq-eqb, ne-eqb, cases-bool}
+use Rattle.std.proofs.shelf.Tests.{cases-order, lt-ltb, le-ltb}
 use Rattle.rows.specs.Rows.{fits, matches}
 use Rattle.rows.specs.Settings.{bitOf, one}
 
@@ -43,10 +42,10 @@ or-bit a b k =
     ap (λ (x : ℕ). x % 2) (or-shr a b k ∙ or-step (a / 2 ^ k) (b / 2 ^ k))
     ∙ mod-mul-add _ 2 _ (bit-max (a / 2 ^ k) (b / 2 ^ k))
 
-pub pow-bit-same : (s : ℕ) → bitOf (2 ^ s) s ≡ 1
+pow-bit-same : (s : ℕ) → bitOf (2 ^ s) s ≡ 1
 pow-bit-same s = ap (λ (x : ℕ). x / 2 ^ s % 2) (sym (one-mul (2 ^ s))) ∙ ap (λ (x : ℕ). x % 2) (shl-shr 1 s)
 
-pub pow-bit-above : (s k : ℕ) → s < k → bitOf (2 ^ s) k ≡ 0
+pow-bit-above : (s k : ℕ) → s < k → bitOf (2 ^ s) k ≡ 0
 pow-bit-above s k h =
     let q : 0 + k ≡ k = omega arith in
     let l : 2 ^ s < 2 ^ (0 + k) = rw q (pow-below s k h) in
@@ -57,7 +56,7 @@ pow-bit-above s k h =
 pow-even : (j : ℕ) → 2 ^ suc j % 2 ≡ 0
 pow-even j = ap (λ (x : ℕ). x % 2) (sym (one-mul (2 ^ suc j))) ∙ shifted-even 1 j
 
-pub pow-bit-below : (s k : ℕ) → k < s → bitOf (2 ^ s) k ≡ 0
+pow-bit-below : (s k : ℕ) → k < s → bitOf (2 ^ s) k ≡ 0
 pow-bit-below s k h =
     let q : s ≡ suc (s - k - 1) + k = omega arith in
     ap (λ (x : ℕ). 2 ^ x / 2 ^ k % 2) q

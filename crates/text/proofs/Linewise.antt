@@ -1,16 +1,15 @@
--- Lines of a text one by one, and the signals that they name. Assumes nothing.
+-- Lines of a text one by one. Assumes nothing.
 use mathlib.Core.Path.{_≡_, refl, sym, ap, subst, _∙_}
 use mathlib.Core.Bool.{Bool, true, false, not, cond}
-use mathlib.Core.List.{List, [], _∷_, _++_, map}
-use mathlib.Core.Logic.{_⊎_, inl, inr, ⊎-elim}
-use Prim.Native.Nat.{ℕ, zero, suc, _+_, _-_, _≤_, _<_}
-use native.Mathlib.Numerals.{add-one, one-add}
+use mathlib.Core.List.{List, [], _∷_}
+use mathlib.Core.Logic.{_⊎_, ⊎-elim}
+use Prim.Native.Nat.{ℕ, suc, _+_, _-_, _≤_, _<_}
+use native.Mathlib.Numerals.{one-add}
 use native.Mathlib.Omega.{arith}
-use lib.Dec.{eqb, ltb, leb, leb·suc-suc}
-use lib.ListN.{length, getD, take, drop, length-drop}
-use Rattle.std.specs.shelf.Lists.{leading, All}
-use Rattle.std.specs.shelf.Text.{sameBytes}
-use Rattle.std.proofs.shelf.Lists.{at-drop-more, at-drop-all, drop-drop}
+use lib.Dec.{ltb, leb, leb·suc-suc}
+use lib.ListN.{length, take, drop, length-drop}
+use Rattle.std.specs.shelf.Lists.{leading}
+use Rattle.std.proofs.shelf.Lists.{drop-drop}
 use Rattle.std.proofs.shelf.Sums.{leading-le-length}
 use Rattle.std.proofs.shelf.Tests.{cases-bool, cases-lt, cond-true, cond-false, eqb-true, not-from-true, not-from-false, lt-ltb, le-ltb, le-leb, lt-leb}
 use Rattle.text.specs.Text.{Piece, piece, newline, blank, solid, solidFirst, widened, begun, words, lines}
@@ -54,7 +53,7 @@ lines-more at b m bs f ih =
     cond-false (newline b) _ _ f
     ∙ (ap (widened at b) ih ∙ ap {B = List Piece} (λ r. piece at (b ∷ take m bs) ∷ r) (after-more at b m bs))
 
-pub lines-step : (at : ℕ) (xs : List ℕ) → lines at xs ≡ piece at (take (leading inLine xs) xs) ∷ After at xs (leading inLine xs)
+lines-step : (at : ℕ) (xs : List ℕ) → lines at xs ≡ piece at (take (leading inLine xs) xs) ∷ After at xs (leading inLine xs)
 lines-step at [] = refl
 lines-step at (b ∷ bs) =
     ⊎-elim
@@ -79,7 +78,7 @@ first-in-line (b ∷ bs) =
 abbrev Here : ℕ → ℕ → Bool → List Piece → List Piece
 Here at b s ws = cond (solid b) (begun at b s ws) (cond (blank b) ws [])
 
-pub words-line : (at : ℕ) (xs : List ℕ) → words at xs ≡ words at (take (leading inLine xs) xs)
+words-line : (at : ℕ) (xs : List ℕ) → words at xs ≡ words at (take (leading inLine xs) xs)
 words-line at [] = refl
 words-line at (b ∷ bs) =
     ⊎-elim
@@ -92,9 +91,6 @@ words-line at (b ∷ bs) =
 -- ---- one line more
 
 module _ (text : List ℕ) (from e : ℕ) (h : from ≤ length text) (he : e ≡ from + leading inLine (drop from text)) where
-  line-bytes : List ℕ
-  line-bytes = take (leading inLine (drop from text)) (drop from text)
-
   pub end-within : e ≤ length text
   end-within = omega (arith, leading-le-length inLine (drop from text), length-drop from text)
 

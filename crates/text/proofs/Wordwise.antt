@@ -2,16 +2,16 @@
 use mathlib.Core.Path.{_≡_, refl, sym, ap, _∙_}
 use mathlib.Core.Bool.{Bool, true, false, not, cond, _||_, false≢true}
 use mathlib.Core.List.{List, [], _∷_}
-use mathlib.Core.Logic.{_⊎_, inl, inr, ⊎-elim}
-use Prim.Native.Nat.{ℕ, zero, suc, _+_, _-_, _≤_, _<_}
-use native.Mathlib.Numerals.{add-one, one-add}
+use mathlib.Core.Logic.{_⊎_, ⊎-elim}
+use Prim.Native.Nat.{ℕ, suc, _+_, _-_, _≤_, _<_}
+use native.Mathlib.Numerals.{one-add}
 use native.Mathlib.Omega.{arith}
-use lib.ListN.{length, getD, take, drop, length-drop}
+use lib.ListN.{length, take, drop, length-drop}
 use Rattle.std.specs.shelf.Lists.{leading}
 use Rattle.std.proofs.shelf.Lists.{drop-drop, length-take-le}
 use Rattle.std.proofs.shelf.Sums.{leading-le-length}
 use Rattle.std.proofs.shelf.Tests.{cases-bool, cond-true, cond-false}
-use Rattle.text.specs.Text.{Piece, piece, blank, solid, closes, solidFirst, widened, begun, words}
+use Rattle.text.specs.Text.{piece, blank, solid, closes, solidFirst, widened, begun, words}
 
 -- ---- how many bytes of a kind stand in front
 
@@ -57,12 +57,12 @@ skip-none at b bs f =
     ∙ sym (ap (λ (k : ℕ). words (at + k) (drop k (b ∷ bs))) (leading-no blank b bs f))
 
 -- blanks in front of a word do not matter
-pub blanks-skip : (at : ℕ) (xs : List ℕ) → words at xs ≡ words (at + leading blank xs) (drop (leading blank xs) xs)
+blanks-skip : (at : ℕ) (xs : List ℕ) → words at xs ≡ words (at + leading blank xs) (drop (leading blank xs) xs)
 blanks-skip at [] = refl
 blanks-skip at (b ∷ bs) = ⊎-elim (λ t. skip-more at b bs t (blanks-skip (suc at) bs)) (skip-none at b bs) (cases-bool (blank b))
 
 -- neither a blank nor a word in front: no word is left
-pub no-word : (at : ℕ) (xs : List ℕ) → leading blank xs ≡ 0 → leading solid xs ≡ 0 → words at xs ≡ []
+no-word : (at : ℕ) (xs : List ℕ) → leading blank xs ≡ 0 → leading solid xs ≡ 0 → words at xs ≡ []
 no-word at [] e f = refl
 no-word at (b ∷ bs) e f =
     ⊎-elim (λ t. absurd (omega (arith, leading-yes solid b bs t)))
@@ -83,7 +83,7 @@ first-only at b bs t u =
     ∙ (ap (λ (x : Bool). begun at b x (words (suc at) bs)) u
     ∙ ap (λ (k : ℕ). piece at (b ∷ []) ∷ words k bs) (omega arith))
 
-pub first-word : (at : ℕ) (xs : List ℕ) → solidFirst xs ≡ true → words at xs ≡ piece at (take (leading solid xs) xs) ∷ words (at + leading solid xs) (drop (leading solid xs) xs)
+first-word : (at : ℕ) (xs : List ℕ) → solidFirst xs ≡ true → words at xs ≡ piece at (take (leading solid xs) xs) ∷ words (at + leading solid xs) (drop (leading solid xs) xs)
 first-word at [] t = absurd (false≢true t)
 first-word at (b ∷ bs) t =
     ⊎-elim

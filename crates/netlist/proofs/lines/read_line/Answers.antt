@@ -1,13 +1,13 @@
-use mathlib.Core.Path.{_≡_, refl, ap, _∙_}
+use mathlib.Core.Path.{refl, ap, _∙_}
 use native.Mathlib.Omega.{arith}
 use Prim.Native.Nat.{_-_}
-use lib.ListN.{length, take, drop}
+use lib.ListN.{take, drop}
 use Rattle.std.specs.Of.Vec.{vec-items}
 use Rattle.std.proofs.shelf.Lists.{length-map}
 use Rattle.text.specs.Text.{piece}
 use Rattle.text.proofs.Linewise.{line-words-is}
 use Rattle.netlist.specs.declared.netlist_fault.NetlistFault.the-variants.{OfWord}
-use Rattle.netlist.specs.Answers.{wordsJudged}
+use Rattle.netlist.specs.Outcomes.{wordsJudged}
 use Rattle.netlist.specs.Effects.{state}
 use Rattle.netlist.specs.Views.{pieces, signalOn, signalsOn}
 use Rattle.netlist.proofs.Bodies.{carried}

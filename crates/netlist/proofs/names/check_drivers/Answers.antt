@@ -1,16 +1,16 @@
-use mathlib.Core.Path.{_≡_, refl, sym, ap, _∙_}
-use mathlib.Core.Bool.{true, false, cond, _||_}
-use mathlib.Core.List.{List, [], _∷_, map}
-use Prim.Native.Nat.{ℕ, _+_, _<_}
+use mathlib.Core.Path.{refl, sym, ap, _∙_}
+use mathlib.Core.Bool.{true, false}
+use mathlib.Core.List.{List, map}
+use Prim.Native.Nat.{ℕ}
 use native.Mathlib.Omega.{arith}
-use lib.ListN.{length, take, drop}
+use lib.ListN.{take}
 use Rattle.std.specs.declared.option.Option.{Option}
 use Rattle.std.specs.declared.option.Option.the-variants.{Some}
 use Rattle.std.proofs.shelf.Lists.{at-drop-all}
 use Rattle.fault.specs.declared.refusal.Refusal.{Refusal}
 use Rattle.fault.specs.declared.cause.Cause.the-variants.{SecondDriver}
 use Rattle.text.specs.Views.{pieceOf}
-use Rattle.netlist.specs.Answers.{firstOf, refusalOf}
+use Rattle.netlist.specs.Outcomes.{firstOf, refusalOf}
 use Rattle.netlist.specs.Faults.{fault, drivenTwice}
 use Rattle.netlist.specs.Views.{pieces, bytesOf, signalsOn}
 use Rattle.netlist.proofs.Passes.{twice-at, noSpan}

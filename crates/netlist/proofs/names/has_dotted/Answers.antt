@@ -1,4 +1,4 @@
-use mathlib.Core.Path.{_≡_, ap, _∙_}
+use mathlib.Core.Path.{ap, _∙_}
 use Rattle.text.specs.Text.{Piece}
 use Rattle.text.specs.Views.{pieceOf}
 use Rattle.text.specs.Words.{dotted}

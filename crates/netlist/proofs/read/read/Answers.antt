@@ -2,7 +2,7 @@ use mathlib.Core.Path.{sym, ap, subst, _∙_}
 use Rattle.fault.specs.declared.cause.Cause.the-variants.{Cycle}
 use Rattle.network.specs.Net.{signals}
 use Rattle.network.specs.declared.span.Span.{Span}
-use Rattle.netlist.specs.Answers.{refusalOf}
+use Rattle.netlist.specs.Outcomes.{refusalOf}
 use Rattle.netlist.specs.Cycles.{Closes}
 use Rattle.netlist.specs.Faults.{fault}
 use Rattle.netlist.specs.Reading.{Verdict, netlist, refuses}

@@ -1,7 +1,7 @@
-use mathlib.Core.Path.{_≡_, sym, ap, _∙_}
+use mathlib.Core.Path.{sym, ap, _∙_}
 use mathlib.Core.List.{List}
 use Prim.Native.Nat.{ℕ}
-use Rattle.netlist.specs.Answers.{refusalOf}
+use Rattle.netlist.specs.Outcomes.{refusalOf}
 use Rattle.netlist.specs.Reading.{refuses, allDriven}
 use Rattle.netlist.specs.Views.{signalsOn}
 use Rattle.netlist.proofs.Stepwise.{driven-on, undriven-here, all-driven}

@@ -1,10 +1,10 @@
-use mathlib.Core.Path.{_≡_, refl, sym, ap, _∙_}
+use mathlib.Core.Path.{refl, sym, ap, _∙_}
 use native.Mathlib.Omega.{arith}
 use Rattle.std.specs.Of.Vec.{vec-items}
 use Rattle.std.specs.Iters.{folded}
 use Rattle.text.proofs.Linewise.{end-within, line-next, lines-end, lines-start}
 use Rattle.netlist.specs.declared.stage.Stage.the-variants.{Before}
-use Rattle.netlist.specs.Answers.{refusalOf}
+use Rattle.netlist.specs.Outcomes.{refusalOf}
 use Rattle.netlist.specs.Effects.{state}
 use Rattle.netlist.specs.Reading.{stepOn, ongoing}
 use Rattle.netlist.specs.Views.{signalsOn}

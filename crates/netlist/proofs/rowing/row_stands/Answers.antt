@@ -1,11 +1,12 @@
-use mathlib.Core.Path.{_≡_, sym, ap, _∙_}
-use Rattle.netlist.specs.Faults.{rowOf, rowStands}
-use Rattle.netlist.specs.Views.{pieces, signalsOn}
+use mathlib.Core.Path.{sym, ap, _∙_}
+use Rattle.rows.specs.Views.{rowOn}
+use Rattle.netlist.specs.Faults.{rowStands}
+use Rattle.netlist.specs.Views.{signalsOn}
 use Rattle.netlist.proofs.Rowwise.{joins-past, joins-here}
 use Rattle.netlist.proofs.rowing.row_stands.Needs as need
 
 pub returns-then-g-signals : need.returns-then-g-signals
-returns-then-g-signals c = joins-past (c .args .text .now) (c .args .signals .now) (c .in-Rows .g) (rowOf (pieces (c .args .text .now) (c .args .words .now))) (c .if-g-signals .taken) ∙ ap (λ s. rowStands s (signalsOn (c .args .text .now) (c .args .signals .now)) (pieces (c .args .text .now) (c .args .words .now))) (sym (c .in-Rows .is))
+returns-then-g-signals c t = joins-past t (c .args .signals .now) (c .in-Rows .g) (rowOn (c .args .row)) (c .if-g-signals .taken) ∙ ap (λ s. rowStands s (signalsOn t (c .args .signals .now)) (rowOn (c .args .row))) (sym (c .in-Rows .is))
 
 pub returns-else-g-signals : need.returns-else-g-signals
-returns-else-g-signals c = c .row-joins .ensures ∙ (joins-here (c .args .text .now) (c .args .signals .now) (c .in-Rows .g) (rowOf (pieces (c .args .text .now) (c .args .words .now))) (c .index-signals-g .result) (c .if-g-signals .left) (c .index-signals-g .is) ∙ ap (λ s. rowStands s (signalsOn (c .args .text .now) (c .args .signals .now)) (pieces (c .args .text .now) (c .args .words .now))) (sym (c .in-Rows .is)))
+returns-else-g-signals c t = c .row-joins .ensures t ∙ (joins-here t (c .args .signals .now) (c .in-Rows .g) (rowOn (c .args .row)) (c .index-signals-g .result) (c .if-g-signals .left) (c .index-signals-g .is) ∙ ap (λ s. rowStands s (signalsOn t (c .args .signals .now)) (rowOn (c .args .row))) (sym (c .in-Rows .is)))

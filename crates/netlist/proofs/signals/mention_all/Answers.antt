@@ -1,5 +1,5 @@
-use mathlib.Core.Path.{_≡_, refl, sym, ap, _∙_}
-use mathlib.Core.List.{List, [], _∷_, map}
+use mathlib.Core.Path.{refl, sym, ap, _∙_}
+use mathlib.Core.List.{List, map}
 use Prim.Native.Nat.{ℕ}
 use native.Mathlib.Omega.{arith}
 use Rattle.std.specs.declared.option.Option.{Option}
@@ -8,7 +8,7 @@ use Rattle.std.specs.Of.Vec.{vec-items}
 use Rattle.std.proofs.shelf.Lists.{length-map}
 use Rattle.fault.specs.declared.cause.Cause.the-variants.{TooManySignals}
 use Rattle.fault.specs.declared.refusal.Refusal.{Refusal}
-use Rattle.netlist.specs.Answers.{firstOf, refusalOf}
+use Rattle.netlist.specs.Outcomes.{firstOf, refusalOf}
 use Rattle.netlist.specs.Faults.{fault}
 use Rattle.netlist.specs.Views.{signalOn, signalsOn}
 use Rattle.netlist.proofs.Firsts.{some-none}

@@ -6,7 +6,7 @@ use Rattle.std.proofs.shelf.Tests.{lt-ltb, le-ltb}
 use Rattle.text.specs.Words.{longNames}
 use Rattle.text.specs.Refusals as words
 use Rattle.netlist.specs.declared.netlist_fault.NetlistFault.the-variants.{OfWord}
-use Rattle.netlist.specs.Answers.{refusal, refusalOf}
+use Rattle.netlist.specs.Outcomes.{refusal, refusalOf}
 use Rattle.netlist.specs.Effects.{state}
 use Rattle.netlist.specs.Views.{pieces, signalsOn}
 use Rattle.netlist.proofs.Bodies.{admit-long, admit-pins, admit-many}

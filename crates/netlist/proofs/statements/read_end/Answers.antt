@@ -1,8 +1,8 @@
-use mathlib.Core.Path.{_≡_, ap, _∙_}
+use mathlib.Core.Path.{ap, _∙_}
 use native.Mathlib.Omega.{arith}
 use borrow.Author.Tests.{ltb-true, ltb-false}
 use Rattle.std.proofs.shelf.Lists.{length-map}
-use Rattle.netlist.specs.Answers.{refusalOf, firstJudged}
+use Rattle.netlist.specs.Outcomes.{refusalOf, firstJudged}
 use Rattle.netlist.specs.Effects.{state}
 use Rattle.netlist.specs.Reading.{refused}
 use Rattle.netlist.specs.Statements.{endOf}

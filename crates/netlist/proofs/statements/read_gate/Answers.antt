@@ -1,13 +1,13 @@
-use mathlib.Core.Path.{_≡_, refl, sym, ap, _∙_}
-use mathlib.Core.List.{List, [], _∷_}
-use Prim.Native.Nat.{ℕ, _-_, _<_, _≤_}
+use mathlib.Core.Path.{refl, ap, _∙_}
+use mathlib.Core.List.{[], _∷_}
+use Prim.Native.Nat.{_-_}
 use native.Mathlib.Omega.{arith}
 use lib.ListN.{length, getD, take}
 use borrow.Author.Needs.{needs}
 use borrow.Author.Tests.{ltb-true, ltb-false}
 use Rattle.std.specs.Of.Vec.{vec-items}
 use Rattle.text.specs.Text.{Piece}
-use Rattle.netlist.specs.Answers.{firstOf, refusalOf}
+use Rattle.netlist.specs.Outcomes.{firstOf, refusalOf}
 use Rattle.netlist.specs.Effects.{state}
 use Rattle.netlist.specs.Reading.{refused}
 use Rattle.netlist.specs.Signals.{numberOf, numbers}

@@ -5,7 +5,7 @@ use borrow.Author.Tests.{ltb-true, ltb-false}
 use Rattle.std.proofs.shelf.Lists.{length-map}
 use Rattle.text.specs.Views.{pieceOf}
 use Rattle.netlist.specs.declared.netlist_fault.NetlistFault.the-variants.{OfWord}
-use Rattle.netlist.specs.Answers.{refusalOf, firstJudged}
+use Rattle.netlist.specs.Outcomes.{refusalOf, firstJudged}
 use Rattle.netlist.specs.Effects.{state}
 use Rattle.netlist.specs.Reading.{refused}
 use Rattle.netlist.specs.Statements.{modelOf}

@@ -1,10 +1,10 @@
-use mathlib.Core.Path.{_≡_, refl, ap, _∙_}
+use mathlib.Core.Path.{refl, ap, _∙_}
 use mathlib.Core.Bool.{false}
 use mathlib.Core.List.{List, []}
 use native.Mathlib.Omega.{arith}
 use Rattle.std.specs.Of.Vec.{vec-items}
 use Rattle.netlist.specs.declared.stage.Stage.the-variants.{Body}
-use Rattle.netlist.specs.Answers.{refusalOf}
+use Rattle.netlist.specs.Outcomes.{refusalOf}
 use Rattle.netlist.specs.Effects.{state, effect}
 use Rattle.netlist.specs.Signals as spec
 use Rattle.netlist.specs.Signals.{asOutput, onEach}

@@ -1,4 +1,4 @@
-use mathlib.Core.Path.{_≡_, sym, ap, _∙_}
+use mathlib.Core.Path.{sym, ap, _∙_}
 use Rattle.text.specs.Refusals.{refusing}
 use Rattle.text.specs.declared.word_fault.WordFault.the-variants.{BadByte}
 use Rattle.text.proofs.Runs.{bad-more, bad-found, bad-ends}

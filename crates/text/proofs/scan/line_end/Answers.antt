@@ -1,5 +1,4 @@
-use mathlib.Core.Path.{sym}
-use mathlib.Core.Bool.{Bool, true, false, not}
+use mathlib.Core.Bool.{Bool, not}
 use Prim.Native.Nat.{ℕ}
 use Rattle.std.proofs.shelf.Tests.{not-from-true, not-from-false, eq-eqb, ne-eqb}
 use Rattle.text.specs.Text.{newline}

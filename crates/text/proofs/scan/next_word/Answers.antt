@@ -1,5 +1,3 @@
-use borrow.Author.Needs.{needs}
-use native.Mathlib.Omega.{arith}
 use Rattle.text.proofs.Wordwise.{next-none, next-some, next-within, next-inside, next-part}
 use Rattle.text.proofs.scan.next_word.Needs as need
 
