@@ -34,18 +34,20 @@ returns-in-Keyword c =
 
 pub returns-in-Dotted : need.returns-in-Dotted
 returns-in-Dotted c =
-    record
-    { is =
-        ap (λ f. refused (refusalOf f)) (c .new .ensures)
-        ∙ words-some (c .args .text .now) (state (c .args .stage) (signalsOn (c .args .text .now) (vec-items (c .args .signals .now)))) (c .args .words .now) (drop 1 (c .args .words .now)) noSpan (unknown (pieceOf (c .in-Dotted .word))) (pieceOf (c .word-at .result)) (omega (arith, ltb-true, ltb-false)) refl (c .word-at .ensures) (c .in-Dotted .ensures tt)
-    ; few = c .pre .room .0
-    ; capacity = refl }
+    record {
+      is =
+          ap (λ f. refused (refusalOf f)) (c .new .ensures)
+          ∙ words-some (c .args .text .now) (state (c .args .stage) (signalsOn (c .args .text .now) (vec-items (c .args .signals .now)))) (c .args .words .now) (drop 1 (c .args .words .now)) noSpan (unknown (pieceOf (c .in-Dotted .word))) (pieceOf (c .word-at .result)) (omega (arith, ltb-true, ltb-false)) refl (c .word-at .ensures) (c .in-Dotted .ensures tt);
+      few = c .pre .room .0;
+      capacity = refl;
+    }
 
 pub returns-in-Plain : need.returns-in-Plain
 returns-in-Plain c =
-    record
-    { is =
-        c .read-row .ensures .is
-        ∙ words-some (c .args .text .now) (state (c .args .stage) (signalsOn (c .args .text .now) (vec-items (c .args .signals .now)))) (c .args .words .now) _ noSpan (plain (pieceOf (c .in-Plain .word))) (pieceOf (c .word-at .result)) (omega (arith, ltb-true, ltb-false)) (take-rest (c .args .words .now) 1) (c .word-at .ensures) (c .in-Plain .ensures tt)
-    ; few = c .read-row .ensures .few
-    ; capacity = c .read-row .ensures .capacity }
+    record {
+      is =
+          c .read-row .ensures .is
+          ∙ words-some (c .args .text .now) (state (c .args .stage) (signalsOn (c .args .text .now) (vec-items (c .args .signals .now)))) (c .args .words .now) _ noSpan (plain (pieceOf (c .in-Plain .word))) (pieceOf (c .word-at .result)) (omega (arith, ltb-true, ltb-false)) (take-rest (c .args .words .now) 1) (c .word-at .ensures) (c .in-Plain .ensures tt);
+      few = c .read-row .ensures .few;
+      capacity = c .read-row .ensures .capacity;
+    }

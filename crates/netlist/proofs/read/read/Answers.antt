@@ -25,6 +25,9 @@ returns-in-Err c =
     let xs = vec-items (c .in-Continue-draft .draft .signals) in
     let s = c .in-Err .cyclic .lowest in
     let built = c .in-Err .ensures tt in
-    subst (λ (v : Verdict). Closes v (refuses (refusalOf (c .new .result)))) (c .in-Continue-draft .ensures tt .is)
-    (s, lowest-on text xs s (built .0), ap refusalOf (c .new .ensures)
-    ∙ ap (fault Cycle) (ap (λ (n : Span). n .at) (built .1) ∙ sym (place-on text xs s)))
+    subst (λ (v : Verdict). Closes v (refuses (refusalOf (c .new .result)))) (c .in-Continue-draft .ensures tt .is) (
+      s,
+      lowest-on text xs s (built .0),
+      ap refusalOf (c .new .ensures)
+          ∙ ap (fault Cycle) (ap (λ (n : Span). n .at) (built .1) ∙ sym (place-on text xs s)),
+    )

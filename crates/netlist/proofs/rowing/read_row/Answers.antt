@@ -17,31 +17,34 @@ use Rattle.netlist.proofs.rowing.read_row.Needs as need
 pub returns-in-rest : need.returns-in-rest
 returns-in-rest c =
     let ss = signalsOn (c .args .text .now) (vec-items (c .args .signals .now)) in
-    record
-    { is =
-        ap (λ f. refused (refusalOf f)) (c .new .ensures)
-        ∙ row-refused (c .args .stage) ss (c .args .first .at) (rowOf (pieceOf (c .args .first) ∷ pieces (c .args .text .now) (c .args .rest .now))) (omega (arith, length-map (vec-items (c .args .signals .now)) (signalOn (c .args .text .now)), c .args .signals .now .ok .0, c .pre .few)) (ap (goodRow (c .args .stage) ss) (c .in-rest .ensures tt))
-    ; few = c .pre .few
-    ; capacity = refl }
+    record {
+      is =
+          ap (λ f. refused (refusalOf f)) (c .new .ensures)
+          ∙ row-refused (c .args .stage) ss (c .args .first .at) (rowOf (pieceOf (c .args .first) ∷ pieces (c .args .text .now) (c .args .rest .now))) (omega (arith, length-map (vec-items (c .args .signals .now)) (signalOn (c .args .text .now)), c .args .signals .now .ok .0, c .pre .few)) (ap (goodRow (c .args .stage) ss) (c .in-rest .ensures tt));
+      few = c .pre .few;
+      capacity = refl;
+    }
 
 pub returns-then-not-row-stands : need.returns-then-not-row-stands
 returns-then-not-row-stands c =
     let ss = signalsOn (c .args .text .now) (vec-items (c .args .signals .now)) in
-    record
-    { is =
-        ap (λ f. refused (refusalOf f)) (c .new-then-not-row-stands .ensures)
-        ∙ row-refused (c .args .stage) ss (c .args .first .at) (rowOf (pieceOf (c .args .first) ∷ pieces (c .args .text .now) (c .args .rest .now))) (omega (arith, length-map (vec-items (c .args .signals .now)) (signalOn (c .args .text .now)), c .args .signals .now .ok .0, c .pre .few))
-          (c .if-not-row-stands .ensures tt (c .args .text .now) ∙ (ap (λ v. rowStands (c .args .stage) (signalsOn (c .args .text .now) v) (rowOn (c .in-Some .row))) (c .deref .ensures .value) ∙ ap (goodRow (c .args .stage) ss) (c .in-Some .ensures tt)))
-    ; few = c .pre .few
-    ; capacity = refl }
+    record {
+      is =
+          ap (λ f. refused (refusalOf f)) (c .new-then-not-row-stands .ensures)
+          ∙ row-refused (c .args .stage) ss (c .args .first .at) (rowOf (pieceOf (c .args .first) ∷ pieces (c .args .text .now) (c .args .rest .now))) (omega (arith, length-map (vec-items (c .args .signals .now)) (signalOn (c .args .text .now)), c .args .signals .now .ok .0, c .pre .few))
+          (c .if-not-row-stands .ensures tt (c .args .text .now) ∙ (ap (λ v. rowStands (c .args .stage) (signalsOn (c .args .text .now) v) (rowOn (c .in-Some .row))) (c .deref .ensures .value) ∙ ap (goodRow (c .args .stage) ss) (c .in-Some .ensures tt)));
+      few = c .pre .few;
+      capacity = refl;
+    }
 
 pub returns : need.returns
 returns c =
     let ss = signalsOn (c .args .text .now) (vec-items (c .args .signals .now)) in
-    record
-    { is =
-        row-taken (c .args .stage) ss (c .args .first .at) (rowOf (pieceOf (c .args .first) ∷ pieces (c .args .text .now) (c .args .rest .now))) (omega (arith, length-map (vec-items (c .args .signals .now)) (signalOn (c .args .text .now)), c .args .signals .now .ok .0, c .pre .few)) _
-        (c .if-not-row-stands .ensures tt (c .args .text .now) ∙ (ap (λ v. rowStands (c .args .stage) (signalsOn (c .args .text .now) v) (rowOn (c .in-Some .row))) (c .deref .ensures .value) ∙ ap (goodRow (c .args .stage) ss) (c .in-Some .ensures tt)))
-        (c .apply-row .ensures .items (c .args .text .now) ∙ ap (rowDone (c .args .stage) ss) (c .in-Some .ensures tt))
-    ; few = omega (arith, c .apply-row .ensures .len, c .pre .few)
-    ; capacity = c .apply-row .ensures .capacity }
+    record {
+      is =
+          row-taken (c .args .stage) ss (c .args .first .at) (rowOf (pieceOf (c .args .first) ∷ pieces (c .args .text .now) (c .args .rest .now))) (omega (arith, length-map (vec-items (c .args .signals .now)) (signalOn (c .args .text .now)), c .args .signals .now .ok .0, c .pre .few)) _
+          (c .if-not-row-stands .ensures tt (c .args .text .now) ∙ (ap (λ v. rowStands (c .args .stage) (signalsOn (c .args .text .now) v) (rowOn (c .in-Some .row))) (c .deref .ensures .value) ∙ ap (goodRow (c .args .stage) ss) (c .in-Some .ensures tt)))
+          (c .apply-row .ensures .items (c .args .text .now) ∙ ap (rowDone (c .args .stage) ss) (c .in-Some .ensures tt));
+      few = omega (arith, c .apply-row .ensures .len, c .pre .few);
+      capacity = c .apply-row .ensures .capacity;
+    }
