@@ -11,11 +11,12 @@ use std::io;
 use waiting::list::WaitingList;
 use waiting::strip::*;
 
-pub fn show_refusal(rt: &LibcRuntime, refusal: Refusal) -> io::Result<()> {
+/// A refusal, with the file that is refused and the cause in words.
+pub fn show_refusal(rt: &LibcRuntime, file: &str, refusal: Refusal) -> io::Result<()> {
     let number = refusal.number();
     let place = refusal.place;
     let cause = refusal.cause;
-    println!(rt, "REFUSED {number} NETLIST {place}: {cause}")
+    println!(rt, "REFUSED {number} {file} {place}: {cause}")
 }
 
 /// The signals by number with what drives them, and then their names by turn.
@@ -111,7 +112,12 @@ fn show_turns(rt: &LibcRuntime, text: &[u8], network: &Network) -> io::Result<()
     println!(rt)
 }
 
-fn show_name(rt: &LibcRuntime, text: &[u8], network: &Network, signal: usize) -> io::Result<()> {
+pub fn show_name(
+    rt: &LibcRuntime,
+    text: &[u8],
+    network: &Network,
+    signal: usize,
+) -> io::Result<()> {
     match network.name(signal) {
         Some(name) => show_span(rt, text, name),
         None => Ok(()),
