@@ -1,3 +1,5 @@
 // Refusals: why a call said no, and where in the file.
+#![tactic(auto)]
+
 pub mod cause;
 pub mod refusal;

@@ -1,4 +1,6 @@
 // Fields read from bytes worked by hand.
+#![tactic(auto)]
+
 #[cfg(test)]
 mod tests {
     use fault::cause::Cause;

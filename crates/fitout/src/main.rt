@@ -1,4 +1,6 @@
 // Reads a netlist and a delay table, opens boards on them, and prints what they say, or why they are refused.
+#![tactic(auto)]
+
 mod arrivals;
 mod boards;
 mod show;

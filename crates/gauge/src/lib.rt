@@ -1,4 +1,6 @@
 // Semirings, the gauges Late, Early and Count, and edge matrices over any semiring.
+#![tactic(auto)]
+
 pub mod arrivals;
 pub mod count;
 pub mod early;

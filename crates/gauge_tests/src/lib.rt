@@ -1,4 +1,6 @@
 // The gauges and edge matrices on figures worked by hand.
+#![tactic(auto)]
+
 #[cfg(test)]
 mod tests {
     use gauge::count::Count;

@@ -1,4 +1,6 @@
 // Reading a netlist.
+#![tactic(auto)]
+
 mod change;
 pub mod draft;
 pub mod examples;

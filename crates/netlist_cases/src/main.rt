@@ -1,4 +1,6 @@
 // Reads each netlist that it is given and prints its number of signals, or the refusal's number and place.
+#![tactic(auto)]
+
 use netlist::read::read;
 use netlist::room::Room;
 use std::{env, fs, io};

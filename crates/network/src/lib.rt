@@ -1,4 +1,6 @@
 // A network of signals: what drives them, turns by which every wire climbs, and the rewiring of a pin.
+#![tactic(auto)]
+
 mod cycle;
 pub mod cyclic;
 pub mod gate;

@@ -1,4 +1,6 @@
 // Path sums over an abstract web of signals and wires: each function's contract is a theorem, for every semiring on V.
+#![tactic(auto)]
+
 ghost use Rattle.gauge.specs.Semirings.{Ops, Laws, Selects};
 ghost use Rattle.paths.specs.Sums.{mirror};
 ghost use Rattle.paths.specs.Theorems.{ListsPaths, ReachTold, Unfolds, Unique, Gathers, AgreeInSums, SumsAreSettled, SettledUnique, SettledAreSums, EditsRight, EditsCommute, SumIsWeight, WeightsAbsorbed};

@@ -1,4 +1,6 @@
 // Works the values of signals by their turns: all of them, or after an edit those that a change reaches.
+#![tactic(auto)]
+
 pub mod laws;
 pub mod settle;
 pub mod tap;

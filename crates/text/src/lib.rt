@@ -1,4 +1,6 @@
 // Bytes, lines and words of a netlist's text.
+#![tactic(auto)]
+
 pub mod fixed;
 pub mod scan;
 pub mod token;

@@ -1,4 +1,6 @@
 // Tests of the waiting lists.
+#![tactic(auto)]
+
 #[cfg(test)]
 mod tests {
     use waiting::drain::drain_into;
