@@ -1,15 +1,15 @@
 -- One turn more of the loop that numbers what is picked.
-use Rattle.std.proofs.Common.{◌≡◌, ℕ, ◌+◌, ◌<◌, Bool, true, false, List, length, get_or, set, sym, ap, ◌∙◌, subst, ⊎_elim, add_one, arith}
+use Rattle.std.proofs.Common.{◌≡◌, ℕ, ◌+◌, ◌<◌, Bool, true, false, List, length, get_or, set, sym, ap, ◌∙◌, subst, ⊎_elim, add-one, arith}
 use Rattle.std.proofs.lemmas.List.{get_or-set_same, get_or-set_other}
 use Rattle.std.proofs.lemmas.Bool.{cases_eq, both_ways, cond-true, cond-false}
 use Rattle.network.specs.Renumbering.{Distinct, Numbered}
 use Rattle.network.specs.Tally.{many}
 
 many_yes : (test : ℕ → Bool) (t : ℕ) → test t ≡ true → many test (t + 1) ≡ many test t + 1
-many_yes test t h = rw (add_one t) (ap (λ x. many test t + x) (cond-true {A = ℕ} (test t) 1 0 h))
+many_yes test t h = rw (add-one t) (ap (λ x. many test t + x) (cond-true {A = ℕ} (test t) 1 0 h))
 
 many_no : (test : ℕ → Bool) (t : ℕ) → test t ≡ false → many test (t + 1) ≡ many test t
-many_no test t h = rw add_one (let none = cond-false {A = ℕ} (test t) 1 0 h in omega arith)
+many_no test t h = rw add-one (let none = cond-false {A = ℕ} (test t) 1 0 h in omega arith)
 
 -- the signal s has the turn t
 module _ (pick : ℕ → Bool) (order before : List ℕ) (first : ℕ) (turns : List ℕ) (next t s : ℕ) (so_far : Numbered pick order first t before turns next) (at : s ≡ get_or order t 0) where

@@ -1,5 +1,5 @@
 -- Laws of `some`.
-use Rattle.std.proofs.Common.{◌≡◌, ℕ, zero, suc, ◌+◌, ◌<◌, Bool, true, false, subst, ⊎_elim, add_one, arith}
+use Rattle.std.proofs.Common.{◌≡◌, ℕ, zero, suc, ◌+◌, ◌<◌, Bool, true, false, subst, ⊎_elim, add-one, arith}
 use Rattle.std.proofs.lemmas.Bool.{cases_eq, or_left, or_right, or_from, or_cases, false≢true}
 use Rattle.network.specs.Tally.{some}
 
@@ -12,7 +12,7 @@ some_yes test (suc n) k l e =
     (cases_eq k n)
 
 pub some_more : (test : ℕ → Bool) (n : ℕ) → some test n ≡ false → test n ≡ false → some test (n + 1) ≡ false
-some_more test n before here = rw add_one (or_from (some test n) (test n) before here)
+some_more test n before here = rw add-one (or_from (some test n) (test n) before here)
 
 pub some_find : (test : ℕ → Bool) (n : ℕ) → some test n ≡ true → (k : ℕ) × (k < n) × (test k ≡ true)
 some_find test zero e = absurd (false≢true e)

@@ -1,5 +1,5 @@
 -- The turns of the scanner's loops. Assumes nothing.
-use Rattle.std.proofs.Common.{◌≡◌, ℕ, suc, ◌+◌, ◌-◌, ◌<◌, ◌≤◌, Bool, true, false, List, [], ◌∷◌, length, get_or, take, drop, sym, ap, ◌∙◌, add_one, arith}
+use Rattle.std.proofs.Common.{◌≡◌, ℕ, suc, ◌+◌, ◌-◌, ◌<◌, ◌≤◌, Bool, true, false, List, [], ◌∷◌, length, get_or, take, drop, sym, ap, ◌∙◌, add-one, arith}
 use lib.Seq.{take-nil}
 use Rattle.std.specs.List.{prefix_len}
 use Rattle.std.proofs.lemmas.List.Sums.{prefix_len-drop_yes, prefix_len-drop_no, prefix_len-drop_all}
@@ -30,7 +30,7 @@ module _ (xs : List ℕ) (i e : ℕ) where
   pub bad_more : i < e → i < length xs → bad (get_or xs i 0) ≡ false → Bad ≡ bad_places (i + 1) (take (e - (i + 1)) (drop (i + 1) xs))
   bad_more l h t =
       ap (bad_places i) (front l h)
-      ∙ (cond-false (bad (get_or xs i 0)) _ _ t ∙ sym (ap (λ (k : ℕ). bad_places k (take (e - (i + 1)) (drop (i + 1) xs))) (add_one i)))
+      ∙ (cond-false (bad (get_or xs i 0)) _ _ t ∙ sym (ap (λ (k : ℕ). bad_places k (take (e - (i + 1)) (drop (i + 1) xs))) (add-one i)))
 
   pub bad_found : i < e → i < length xs → bad (get_or xs i 0) ≡ true → Bad ≡ i ∷ bad_places (suc i) (take (e - (i + 1)) (drop (i + 1) xs))
   bad_found l h t = ap (bad_places i) (front l h) ∙ cond-true (bad (get_or xs i 0)) _ _ t

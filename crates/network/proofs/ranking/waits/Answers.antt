@@ -1,4 +1,4 @@
-use Rattle.std.proofs.Common.{◌≡◌, ℕ, Bool, leb, get_or, sym, ap, ◌∙◌, add_one, arith}
+use Rattle.std.proofs.Common.{◌≡◌, ℕ, Bool, leb, get_or, sym, ap, ◌∙◌, add-one, arith}
 use Rattle.std.proofs.lemmas.Bool.{le-leb, lt-leb, or_from}
 use Rattle.network.specs.Wiring.{wires, feeder}
 use Rattle.network.proofs.Tallies.{some_yes}
@@ -17,4 +17,4 @@ loop-pin-preserved c =
     let xs = c.args.signals.now in
     let turns = c.args.turn-of.now in
     let at : c.from.result ≡ get_or turns (feeder xs c.args.signal c.loop-pin.pin) 0 = c.from.ensures ∙ ap (λ u. get_or turns u 0) c.feeder.ensures in
-    rw add_one (or_from _ _ c.loop-pin.invariant (lt-leb _ _ (omega (arith, at, c.if-from-placed.false))))
+    rw add-one (or_from _ _ c.loop-pin.invariant (lt-leb _ _ (omega (arith, at, c.if-from-placed.false))))
