@@ -93,7 +93,7 @@ impl<S: Semiring> Semiring for EdgeMatrix<S> {
 
 /// The two ways between an edge before and an edge after: by a rise and by a fall.
 fn through<S: Semiring>(to_rise: S, from_rise: S, to_fall: S, from_fall: S) -> S
-    ensures { result ≡ ops.plus (ops.times to_rise from_rise) (ops.times to_fall from_fall) }
+    ensures { result ≡ S.ops.plus (S.ops.times to_rise from_rise) (S.ops.times to_fall from_fall) }
 {
     to_rise.times(from_rise).plus(to_fall.times(from_fall))
 }

@@ -4,4 +4,4 @@ use Rattle.gauge.specs.TimesLemmas.{time_same}
 use Rattle.gauge.proofs.arrivals.delayed.Goals as goal
 
 pub returns : goal.returns
-returns c = ap Some (time_same c.saturating-add.ensures) ∙ sym (ap₂ passed c.in-ok-x.was c.in-ok-y.was)
+returns c = ap Some (time_same c.saturating_add.ensures) ∙ sym (ap₂ passed c.in_ok-x.was c.in_ok-y.was)
