@@ -7,11 +7,11 @@ use crate::list::*;
 // Takes turns off the list into `out`, as many as wait and there is room for, and answers how many.
 // With as many cells as the limit there is room for all.
 pub fn drain_into<W: WaitingList>(list: &mut W, out: &mut [u16]) -> usize
-    ensures limit { limit list.new ≡ limit list.old }
+    ensures limit { W.limit list.new ≡ W.limit list.old }
     ensures room { result ≤ length out.old }
-    ensures given { Drained (waits list.old) (take result out.new) (waits list.new) }
-    ensures emptied { result < length out.old → Empty (waits list.new) }
-    ensures enough { limit list.old ≤ length out.old → Empty (waits list.new) }
+    ensures given { Drained (W.waits list.old) (take result out.new) (W.waits list.new) }
+    ensures emptied { result < length out.old → Empty (W.waits list.new) }
+    ensures enough { W.limit list.old ≤ length out.old → Empty (W.waits list.new) }
     ensures past { drop result out.new ≡ drop result out.old }
 {
     let mut n = 0;

@@ -7,6 +7,6 @@ pub returns : goal.returns
 returns c =
     let xs = c.args.signals.now in
     let s = c.args.signal in
-    let marks = c.mark-back.new.marks in
-    let searched = c.mark-back.ensures in
+    let marks = c.mark_back.new.marks in
+    let searched = c.mark_back.ensures in
     record { is = λ y. leads xs s marks searched refl s y; not = λ z on. both_ways _ z (all_that_lead xs s marks searched refl s on) }

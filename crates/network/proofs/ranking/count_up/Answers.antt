@@ -11,6 +11,6 @@ counting_more n =
 pub loop-number-preserved : goal.loop-number-preserved
 loop-number-preserved c =
     let inv = c.loop-number.invariant in
-    let pushed = c.push-reserved.ensures in
+    let pushed = c.push_reserved.ensures in
     let n = c.loop-number.number in
     (pushed.items ∙ ap (λ (xs : List ℕ). xs ++ n ∷ []) inv.0 ∙ counting_more n, omega (arith, inv.1, pushed.len), pushed.capacity ∙ inv.2)

@@ -6,7 +6,7 @@ use Rattle.network.proofs.ranking.place.Goals as goal
 pub returns : goal.returns
 returns c =
     let xs = c.args.signals.now in
-    let turns = c.args.turn-of.now in
+    let turns = c.args.turn_of.now in
     let order = c.args.order.now in
     let a = c.args.placed in
     let b = c.args.turn in

@@ -4,4 +4,4 @@ use Rattle.network.specs.Wiring.{feeder}
 use Rattle.network.proofs.ranking.waits.Given as goal
 
 abbrev pub invariant-loop-pin : goal.invariant-loop-pin
-invariant-loop-pin l = some (λ k. leb l.placed (get_or l.«turn-of» (feeder l.signals l.signal k) 0)) l.pin ≡ false
+invariant-loop-pin l = some (λ k. leb l.placed (get_or l.turn_of (feeder l.signals l.signal k) 0)) l.pin ≡ false

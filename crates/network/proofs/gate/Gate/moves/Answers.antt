@@ -9,10 +9,10 @@ moves_by : (gate : Gate) (pin setting : ℕ) (to : Bool) → pin < gate.pin_coun
 moves_by gate pin setting to there below moved =
     sym (and_from _ _ (lt-ltb pin gate.pin_count there) (some_yes (moves_in_lem gate pin to) (2 ^ gate.pin_count) setting below (sym moved)))
 
-pub returns-then-moves-in : goal.returns-then-moves-in
-returns-then-moves-in c =
-    moves_by c.args.self.now c.args.pin c.loop-setting.setting c.args.to (omega (arith, c.if-pin-from.false, c.from.ensures)) (omega (arith, c.settings-setting-end.ensures.is)) c.if-moves-in.ensures
+pub returns-then-moves_in : goal.returns-then-moves_in
+returns-then-moves_in c =
+    moves_by c.args.self.now c.args.pin c.loop-setting.setting c.args.to (omega (arith, c.if-pin-from.false, c.from.ensures)) (omega (arith, c.settings-setting-end.ensures.is)) c.if-moves_in.ensures
 
 pub loop-setting-preserved : goal.loop-setting-preserved
 loop-setting-preserved c =
-    some_more (moves_in_lem c.args.self.now c.args.pin c.args.to) c.loop-setting.setting c.loop-setting.invariant (sym c.if-moves-in.ensures)
+    some_more (moves_in_lem c.args.self.now c.args.pin c.args.to) c.loop-setting.setting c.loop-setting.invariant (sym c.if-moves_in.ensures)

@@ -9,8 +9,8 @@ use Rattle.network.proofs.network.Network.rewire.Goals as goal
 pub returns-then-strip-from-ne0 : goal.returns-then-strip-from-ne0
 returns-then-strip-from-ne0 c =
     let net = c.args.self.now in
-    let marks = c.mark-reached.new.strip in
+    let marks = c.mark_reached.new.strip in
     let yes' : marked marks c.args.feeder ≡ true = subst (λ (u : ℕ). marked marks u ≡ true) c.from.ensures (not_from_false _ (ne_eqb (get_or marks c.from.result 0) 0 c.if-strip-from-ne0.true)) in
-    let reached = (c.mark-reached.ensures.only c.args.feeder yes').1 in
+    let reached = (c.mark_reached.ensures.only c.args.feeder yes').1 in
     let acyclic = climbing_acyclic (signals net) (vec_items net.turn_of) net.climbs in
     record { reached = reached; same = refl; cyclic = closes (signals net) c.args.gate c.args.pin c.args.feeder acyclic c.requires.there reached }

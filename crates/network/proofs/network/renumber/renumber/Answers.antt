@@ -13,6 +13,6 @@ number-requires c =
     let test : ℕ → Bool = λ u. marked c.args.marks.now (get_or c.args.order.now u 0) in
     record {
       few = omega (arith, many_split test (length c.args.order.now), c.number-marked.ensures.counted, c.requires.few);
-      distinct = record { within = λ t l. omega (arith, c.requires.distinct.within t l, c.number-marked.auto.turn-of); once = c.requires.distinct.once };
-      fits = omega (arith, c.requires.fits, c.number-marked.auto.turn-of);
+      distinct = record { within = λ t l. omega (arith, c.requires.distinct.within t l, c.number-marked.auto.turn_of); once = c.requires.distinct.once };
+      fits = omega (arith, c.requires.fits, c.number-marked.auto.turn_of);
     }
