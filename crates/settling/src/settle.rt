@@ -13,20 +13,20 @@ use waiting::list::WaitingList;
 
 // Puts the turn of a signal.
 fn put_signal<N: Wiring, W: WaitingList>(wiring: &N, list: &mut W, signal: usize)
-    requires limited { (shape wiring.now).size ≤ limit list.old }
-    requires here { signal < (shape wiring.now).size }
-    ensures limit { limit list.new ≡ limit list.old }
-    ensures put { (t : ℕ) → waits list.new t ≡ with_turns_of (shape wiring.now) (only signal) (waits list.old) t }
+    requires limited { (N.shape wiring.now).size ≤ W.limit list.old }
+    requires here { signal < (N.shape wiring.now).size }
+    ensures limit { W.limit list.new ≡ W.limit list.old }
+    ensures put { (t : ℕ) → W.waits list.new t ≡ with_turns_of (N.shape wiring.now) (only signal) (W.waits list.old) t }
 {
     let _ = list.put(wiring.turn(signal));
 }
 
 // Puts the turn of each signal that `source` feeds.
 fn put_fed<N: Wiring, W: WaitingList>(wiring: &N, list: &mut W, source: usize)
-    requires limited { (shape wiring.now).size ≤ limit list.old }
-    requires here { source < (shape wiring.now).size }
-    ensures limit { limit list.new ≡ limit list.old }
-    ensures put { (t : ℕ) → waits list.new t ≡ with_turns_of (shape wiring.now) (feeds (shape wiring.now) source) (waits list.old) t }
+    requires limited { (N.shape wiring.now).size ≤ W.limit list.old }
+    requires here { source < (N.shape wiring.now).size }
+    ensures limit { W.limit list.new ≡ W.limit list.old }
+    ensures put { (t : ℕ) → W.waits list.new t ≡ with_turns_of (N.shape wiring.now) (feeds (N.shape wiring.now) source) (W.waits list.old) t }
 {
     let mut start = 0;
     while let Some(signal) = wiring.next_fed(source, start) {
@@ -44,12 +44,12 @@ fn rework<V: Semiring, N: Wiring, W: WaitingList>(
     list: &mut W,
     signal: usize,
 )
-    requires fit { TablesFit (shape wiring.now) starts.now weights.now values.old }
-    requires limited { (shape wiring.now).size ≤ limit list.old }
-    requires here { signal < (shape wiring.now).size }
-    ensures written { values.new ≡ slice_set values.old signal (worked ops (web_on ops (shape wiring.now) starts.now weights.now) (cells ops values.old) signal) }
-    ensures limit { limit list.new ≡ limit list.old }
-    ensures put { (t : ℕ) → waits list.new t ≡ with_turns_of (shape wiring.now) (λ s. not (ops.same (cells ops values.old signal) (cells ops values.new signal)) && feeds (shape wiring.now) signal s) (waits list.old) t }
+    requires fit { TablesFit (N.shape wiring.now) starts.now weights.now values.old }
+    requires limited { (N.shape wiring.now).size ≤ W.limit list.old }
+    requires here { signal < (N.shape wiring.now).size }
+    ensures written { values.new ≡ slice_set values.old signal (worked V.ops (web_on V.ops (N.shape wiring.now) starts.now weights.now) (cells V.ops values.old) signal) }
+    ensures limit { W.limit list.new ≡ W.limit list.old }
+    ensures put { (t : ℕ) → W.waits list.new t ≡ with_turns_of (N.shape wiring.now) (λ s. not (V.ops.same (cells V.ops values.old signal) (cells V.ops values.new signal)) && feeds (N.shape wiring.now) signal s) (W.waits list.old) t }
 {
     let old = values[signal];
     let new = work(wiring, starts, weights, values, signal);
@@ -68,14 +68,14 @@ pub fn settle<V: Semiring, N: Wiring, W: WaitingList>(
     list: &mut W,
     edited: usize,
 ) -> usize
-    requires fit { TablesFit (shape wiring.now) starts.now weights.now values.old }
-    requires limited { (shape wiring.now).size ≤ limit list.old }
-    requires here { edited < (shape wiring.now).size }
-    ensures settled { Settled ops (only edited) (web_on ops (shape wiring.now) starts.now weights.now) (cells ops values.old) (cells ops values.new) }
-    ensures past { drop (shape wiring.now).size values.new ≡ drop (shape wiring.now).size values.old }
-    ensures count { result ≡ edit_count ops edited (web_on ops (shape wiring.now) starts.now weights.now) (cells ops values.old) (cells ops values.new) }
-    ensures empty { Empty (waits list.new) }
-    ensures limit { limit list.new ≡ limit list.old }
+    requires fit { TablesFit (N.shape wiring.now) starts.now weights.now values.old }
+    requires limited { (N.shape wiring.now).size ≤ W.limit list.old }
+    requires here { edited < (N.shape wiring.now).size }
+    ensures settled { Settled V.ops (only edited) (web_on V.ops (N.shape wiring.now) starts.now weights.now) (cells V.ops values.old) (cells V.ops values.new) }
+    ensures past { drop (N.shape wiring.now).size values.new ≡ drop (N.shape wiring.now).size values.old }
+    ensures count { result ≡ edit_count V.ops edited (web_on V.ops (N.shape wiring.now) starts.now weights.now) (cells V.ops values.old) (cells V.ops values.new) }
+    ensures empty { Empty (W.waits list.new) }
+    ensures limit { W.limit list.new ≡ W.limit list.old }
 {
     list.clear();
     put_signal(wiring, list, edited);

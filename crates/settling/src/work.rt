@@ -13,7 +13,7 @@ use waiting::list::WaitingList;
 fn bring<V: Semiring>(weights: &[V], values: &[V], tap: Tap) -> V
     requires from { tap.from < length values.now }
     requires cell { tap.cell < length weights.now }
-    ensures { result ≡ brought ops (cells ops values.now) (wire_of ops weights.now tap) }
+    ensures { result ≡ brought V.ops (cells V.ops values.now) (wire_of V.ops weights.now tap) }
 {
     values[tap.from].times(weights[tap.cell])
 }
@@ -26,9 +26,9 @@ pub(crate) fn work<V: Semiring, N: Wiring>(
     values: &[V],
     signal: usize,
 ) -> V
-    requires fit { TablesFit (shape wiring.now) starts.now weights.now values.now }
-    requires here { signal < (shape wiring.now).size }
-    ensures { result ≡ worked ops (web_on ops (shape wiring.now) starts.now weights.now) (cells ops values.now) signal }
+    requires fit { TablesFit (N.shape wiring.now) starts.now weights.now values.now }
+    requires here { signal < (N.shape wiring.now).size }
+    ensures { result ≡ worked V.ops (web_on V.ops (N.shape wiring.now) starts.now weights.now) (cells V.ops values.now) signal }
 {
     let mut sum = starts[signal];
     for place in 0..wiring.tap_count(signal) {
@@ -45,12 +45,12 @@ pub fn work_all<V: Semiring, N: Wiring, W: WaitingList>(
     values: &mut [V],
     list: &mut W,
 ) -> usize
-    requires { TablesFit (shape wiring.now) starts.now weights.now values.old }
-    ensures sums { AreSums ops (web_on ops (shape wiring.now) starts.now weights.now) (cells ops values.new) }
-    ensures past { drop (shape wiring.now).size values.new ≡ drop (shape wiring.now).size values.old }
-    ensures count { result ≡ (shape wiring.now).size }
-    ensures empty { Empty (waits list.new) }
-    ensures limit { limit list.new ≡ limit list.old }
+    requires { TablesFit (N.shape wiring.now) starts.now weights.now values.old }
+    ensures sums { AreSums V.ops (web_on V.ops (N.shape wiring.now) starts.now weights.now) (cells V.ops values.new) }
+    ensures past { drop (N.shape wiring.now).size values.new ≡ drop (N.shape wiring.now).size values.old }
+    ensures count { result ≡ (N.shape wiring.now).size }
+    ensures empty { Empty (W.waits list.new) }
+    ensures limit { W.limit list.new ≡ W.limit list.old }
 {
     list.clear();
     let count = wiring.signal_count();

@@ -4,15 +4,15 @@ use Rattle.settling.proofs.settle.settle.Goals as goal
 
 pub loop-turn-init : goal.loop-turn-init
 loop-turn-init g c =
-    (begun _ c.args.edited _ (λ t. let put = c.put-signal.ensures.put t in let none = c.clear.ensures.empty t in grind arith), refl)
+    (begun _ c.args.edited _ (λ t. let put = c.put_signal.ensures.put t in let none = c.clear.ensures.empty t in grind arith), refl)
 
 pub rework-requires : goal.rework-requires
 rework-requires g c =
     let below = taken_below _ _ _ _ _ c.in-Some.turn c.loop-turn.invariant.0 c.in-Some.ensures.least.0 in
     record {
       fit = record { starts_long = c.requires.fit.starts_long; weights_long = c.requires.fit.weights_long; values_long = omega (arith, c.loop-turn.auto.values, c.requires.fit.values_long) };
-      limited = omega (arith, c.requires.limited, c.in-Some.ensures.limit, c.loop-turn.invariant.1, c.put-signal.ensures.limit, c.clear.ensures.limit);
-      here = omega (arith, c.signal-at-signal.ensures, (g.N.Wiring.sound c.args.wiring.now).signal_below c.in-Some.turn below);
+      limited = omega (arith, c.requires.limited, c.in-Some.ensures.limit, c.loop-turn.invariant.1, c.put_signal.ensures.limit, c.clear.ensures.limit);
+      here = omega (arith, c.signal_at-signal.ensures, (g.N.Wiring.sound c.args.wiring.now).signal_below c.in-Some.turn below);
     }
 
 pub loop-turn-preserved : goal.loop-turn-preserved
@@ -21,8 +21,8 @@ loop-turn-preserved g c =
     let re = c.rework.ensures in
     let list = g.W.WaitingList in (
       turned _ _ (list.waits c.loop-turn.list) (list.waits c.take.new.self) (list.waits c.rework.new.list) c.loop-turn.values c.rework.new.values
-          c.loop-turn.count _ c.in-Some.turn c.signal-at-signal.result c.loop-turn.invariant.0 (omega (arith, c.loop-turn.auto.values, c.requires.fit.values_long))
-          took.least took.removed c.signal-at-signal.ensures re.written re.put (omega arith),
+          c.loop-turn.count _ c.in-Some.turn c.signal_at-signal.result c.loop-turn.invariant.0 (omega (arith, c.loop-turn.auto.values, c.requires.fit.values_long))
+          took.least took.removed c.signal_at-signal.ensures re.written re.put (omega arith),
       (let limit = took.limit in let was = c.loop-turn.invariant.1 in cc),
     )
 
@@ -32,7 +32,7 @@ loop-turn-smaller g c = omega (arith, (loop-turn-preserved g c).0.few)
 pub returns : goal.returns
 returns g c =
     let i = c.loop-turn.invariant.0 in
-    let none = c.in-default.ensures in
+    let none = c.in_default.ensures in
     let list = g.W.WaitingList in
     record {
       settled = ended _ c.args.edited (list.waits c.loop-turn.list) c.loop-turn.values c.loop-turn.count i none.least;

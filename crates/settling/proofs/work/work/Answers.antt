@@ -20,7 +20,7 @@ loop-place-init g c =
 
 pub bring-requires : goal.bring-requires
 bring-requires g c =
-    let fits = tap_fits (g.N.Wiring.sound _) c.requires.fit c.args.signal c.loop-place.place c.tap.result c.requires.here (omega (arith, c.tap-count-place-end.ensures)) c.tap.ensures in
+    let fits = tap_fits (g.N.Wiring.sound _) c.requires.fit c.args.signal c.loop-place.place c.tap.result c.requires.here (omega (arith, c.tap_count-place-end.ensures)) c.tap.ensures in
     record { from = fits.0; cell = fits.1 }
 
 pub loop-place-preserved : goal.loop-place-preserved
@@ -28,7 +28,7 @@ loop-place-preserved g c =
     let r = g.V.Semiring.ops in
     let taps = (g.N.Wiring.shape c.args.wiring.now).taps c.args.signal in
     let more = gathered_drop r (cells r c.args.values.now) c.args.weights.now c.loop-place.sum taps c.loop-place.place c.tap.result _
-    (omega (arith, c.tap-count-place-end.ensures)) c.tap.ensures in
+    (omega (arith, c.tap_count-place-end.ensures)) c.tap.ensures in
     cc
 
 pub returns : goal.returns
@@ -36,5 +36,5 @@ returns g c =
     let r = g.V.Semiring.ops in
     let taps = (g.N.Wiring.shape c.args.wiring.now).taps c.args.signal in
     let all = at_drop_all (λ (xs : List Tap). gathered r (cells r c.args.values.now) c.loop-place.sum (map (wire_of r c.args.weights.now) xs)) taps c.loop-place.place
-    (omega (arith, c.tap-count-place-end.ensures)) in
+    (omega (arith, c.tap_count-place-end.ensures)) in
     cc

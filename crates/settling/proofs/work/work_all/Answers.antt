@@ -7,16 +7,16 @@ loop-turn-init g c = settled_none _ _
 
 pub loop-turn-preserved : goal.loop-turn-preserved
 loop-turn-preserved g c =
-    settled_more _ (λ s. true) c.loop-turn.turn c.loop-turn.values _ (omega (arith, c.loop-turn.auto.values, c.requires.values_long)) c.loop-turn.invariant c.loop-turn.turn c.signal-at-signal.result
-    (omega (arith, c.signal-count-count.ensures)) c.signal-at-signal.ensures (ap (set c.loop-turn.values c.signal-at-signal.result) c.work.ensures) (omega arith) refl (λ u l h h'. absurd (omega arith))
+    settled_more _ (λ s. true) c.loop-turn.turn c.loop-turn.values _ (omega (arith, c.loop-turn.auto.values, c.requires.values_long)) c.loop-turn.invariant c.loop-turn.turn c.signal_at-signal.result
+    (omega (arith, c.signal_count-count.ensures)) c.signal_at-signal.ensures (ap (set c.loop-turn.values c.signal_at-signal.result) c.work.ensures) (omega arith) refl (λ u l h h'. absurd (omega arith))
 
 pub returns : goal.returns
 returns g c =
     let i = c.loop-turn.invariant in
     record {
-      sums = all_worked _ c.loop-turn.turn c.loop-turn.values (omega (arith, c.signal-count-count.ensures)) i;
+      sums = all_worked _ c.loop-turn.turn c.loop-turn.values (omega (arith, c.signal_count-count.ensures)) i;
       past = i.past;
-      count = c.signal-count-count.ensures;
+      count = c.signal_count-count.ensures;
       empty = c.clear.ensures.empty;
       limit = c.clear.ensures.limit;
     }
