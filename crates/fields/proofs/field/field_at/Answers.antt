@@ -28,11 +28,11 @@ module _ (file : List ℕ) (at : ℕ) where
 pub returns-then-at-file : goal.returns-then-at-file
 returns-then-at-file c = past c.args.file.now c.args.at (omega arith)
 
-pub returns-in-err-field : goal.returns-in-err-field
-returns-in-err-field c =
-    let p = err_from_is_err_and c.from-residual.result c.from-residual.ensures.1 in
-    rw (p.1, p.2) (shut c.args.file.now c.args.at c.in-err-field.field-0.0 c.in-err-field.ensures)
+pub returns-in_err-field : goal.returns-in_err-field
+returns-in_err-field c =
+    let p = err_from_is_err_and c.from_residual.result c.from_residual.ensures.1 in
+    rw (p.1, p.2) (shut c.args.file.now c.args.at c.in_err-field.field-0.0 c.in_err-field.ensures)
 
 pub returns : goal.returns
 returns c =
-    whole_field c.args.file.now c.args.at (content_of c.in-ok-field.field) _ (omega arith) c.in-ok-field.ensures
+    whole_field c.args.file.now c.args.at (content_of c.in_ok-field.field) _ (omega arith) c.in_ok-field.ensures
