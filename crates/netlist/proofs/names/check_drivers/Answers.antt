@@ -8,23 +8,23 @@ use Rattle.netlist.specs.Faults.{fault, driven_twice}
 use Rattle.netlist.specs.Views.{pieces, bytes_of, signals_on}
 use Rattle.netlist.proofs.Passes.{twice_at, no_span}
 use Rattle.netlist.proofs.names.check_drivers.Goals as goal
-use Rattle.netlist.proofs.names.check_drivers.Goals.{then-has-driver-via-then-has-driver, then-has-driver-via-else-has-driver+then-is-among}
+use Rattle.netlist.proofs.names.check_drivers.Goals.{then-has_driver-via-then-has_driver, then-has_driver-via-else-has_driver+then-is_among}
 
 abbrev First : List ℕ → Option Refusal
 First ps = first_of (map (fault SecondDriver) ps)
 
-pub returns-then-has-driver : goal.returns-then-has-driver
-returns-then-has-driver c =
+pub returns-then-has_driver : goal.returns-then-has_driver
+returns-then-has_driver c =
     ap (λ f. Some (refusal_of f)) c.new.ensures
-    ∙ (elim c.then-has-driver.branch [
-      | then-has-driver-via-then-has-driver w ↦ sym (ap First (twice_at c.args.text.now (signals_on c.args.text.now c.args.signals.now) c.args.names.now c.loop-i.i no_span c.loop-i-test.true (piece_of c.word-at-name.result) true _ _ c.word-at-name.ensures w.if-has-driver.ensures refl refl))
-      | then-has-driver-via-else-has-driver+then-is-among w ↦ sym (ap First (twice_at c.args.text.now (signals_on c.args.text.now c.args.signals.now) c.args.names.now c.loop-i.i no_span c.loop-i-test.true (piece_of c.word-at-name.result) false true _ c.word-at-name.ensures w.if-has-driver.ensures (ap (λ (k : ℕ). take k c.args.names.now) (omega arith)) w.if-is-among.ensures))
+    ∙ (elim c.then-has_driver.branch [
+      | then-has_driver-via-then-has_driver w ↦ sym (ap First (twice_at c.args.text.now (signals_on c.args.text.now c.args.signals.now) c.args.names.now c.loop-i.i no_span c.loop-i-test.true (piece_of c.word_at-name.result) true _ _ c.word_at-name.ensures w.if-has_driver.ensures refl refl))
+      | then-has_driver-via-else-has_driver+then-is_among w ↦ sym (ap First (twice_at c.args.text.now (signals_on c.args.text.now c.args.signals.now) c.args.names.now c.loop-i.i no_span c.loop-i-test.true (piece_of c.word_at-name.result) false true _ c.word_at-name.ensures w.if-has_driver.ensures (ap (λ (k : ℕ). take k c.args.names.now) (omega arith)) w.if-is_among.ensures))
     ]
     ∙ ap First c.loop-i.invariant)
 
 pub loop-i-preserved : goal.loop-i-preserved
 loop-i-preserved c =
-    sym (twice_at c.args.text.now (signals_on c.args.text.now c.args.signals.now) c.args.names.now c.loop-i.i no_span c.loop-i-test.true (piece_of c.word-at-name.result) false false _ c.word-at-name.ensures c.if-has-driver.ensures (ap (λ (k : ℕ). take k c.args.names.now) (omega arith)) c.if-is-among.ensures)
+    sym (twice_at c.args.text.now (signals_on c.args.text.now c.args.signals.now) c.args.names.now c.loop-i.i no_span c.loop-i-test.true (piece_of c.word_at-name.result) false false _ c.word_at-name.ensures c.if-has_driver.ensures (ap (λ (k : ℕ). take k c.args.names.now) (omega arith)) c.if-is_among.ensures)
     ∙ c.loop-i.invariant
 
 pub returns : goal.returns

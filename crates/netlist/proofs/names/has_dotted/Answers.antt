@@ -7,13 +7,13 @@ use Rattle.netlist.proofs.Passes.{any_more, any_found, any_none, no_span, lexeme
 use Rattle.netlist.proofs.names.has_dotted.Goals as goal
 
 pub returns-in-Keyword : goal.returns-in-Keyword
-returns-in-Keyword c = any_found (λ (w : Piece). dotted w.bytes) (piece_on c.args.text.now) c.args.names.now c.loop-w.w-index _ no_span c.loop-w-test.true (lexeme_dotted (piece_of c.word-at.result) _ c.in-Keyword.ensures ∙ ap (λ (w : Piece). dotted w.bytes) c.word-at.ensures) c.loop-w.invariant
+returns-in-Keyword c = any_found (λ (w : Piece). dotted w.bytes) (piece_on c.args.text.now) c.args.names.now c.loop-w.w-index _ no_span c.loop-w-test.true (lexeme_dotted (piece_of c.word_at.result) _ c.in-Keyword.ensures ∙ ap (λ (w : Piece). dotted w.bytes) c.word_at.ensures) c.loop-w.invariant
 
 pub returns-in-Dotted : goal.returns-in-Dotted
-returns-in-Dotted c = any_found (λ (w : Piece). dotted w.bytes) (piece_on c.args.text.now) c.args.names.now c.loop-w.w-index _ no_span c.loop-w-test.true (lexeme_dotted (piece_of c.word-at.result) _ c.in-Dotted.ensures ∙ ap (λ (w : Piece). dotted w.bytes) c.word-at.ensures) c.loop-w.invariant
+returns-in-Dotted c = any_found (λ (w : Piece). dotted w.bytes) (piece_on c.args.text.now) c.args.names.now c.loop-w.w-index _ no_span c.loop-w-test.true (lexeme_dotted (piece_of c.word_at.result) _ c.in-Dotted.ensures ∙ ap (λ (w : Piece). dotted w.bytes) c.word_at.ensures) c.loop-w.invariant
 
 pub loop-w-preserved : goal.loop-w-preserved
-loop-w-preserved c = any_more (λ (w : Piece). dotted w.bytes) (piece_on c.args.text.now) c.args.names.now c.loop-w.w-index _ no_span c.loop-w-test.true (lexeme_dotted (piece_of c.word-at.result) _ c.in-Plain.ensures ∙ ap (λ (w : Piece). dotted w.bytes) c.word-at.ensures) c.loop-w.invariant
+loop-w-preserved c = any_more (λ (w : Piece). dotted w.bytes) (piece_on c.args.text.now) c.args.names.now c.loop-w.w-index _ no_span c.loop-w-test.true (lexeme_dotted (piece_of c.word_at.result) _ c.in-Plain.ensures ∙ ap (λ (w : Piece). dotted w.bytes) c.word_at.ensures) c.loop-w.invariant
 
 pub returns : goal.returns
 returns c = any_none (λ (w : Piece). dotted w.bytes) (piece_on c.args.text.now) c.args.names.now c.loop-w.w-index _ c.loop-w-test.false c.loop-w.invariant

@@ -13,18 +13,18 @@ use Rattle.netlist.proofs.read.read.Goals as goal
 pub returns-in-Ok : goal.returns-in-Ok
 returns-in-Ok c =
     let text = c.args.text.now in
-    let xs = vec_items c.in-ok-draft.draft.signals in
+    let xs = vec_items c.in_ok-draft.draft.signals in
     let built = c.in-Ok.ensures in
-    subst (λ (v : Verdict). Closes v (netlist (signals_on text (signals c.in-Ok.network)))) c.in-ok-draft.ensures.is
+    subst (λ (v : Verdict). Closes v (netlist (signals_on text (signals c.in-Ok.network)))) c.in_ok-draft.ensures.is
     (ap (signals_on text) built.1, acyclic_on text xs built.0)
 
 pub returns-in-Err : goal.returns-in-Err
 returns-in-Err c =
     let text = c.args.text.now in
-    let xs = vec_items c.in-ok-draft.draft.signals in
+    let xs = vec_items c.in_ok-draft.draft.signals in
     let s = c.in-Err.cyclic.lowest in
     let built = c.in-Err.ensures in
-    subst (λ (v : Verdict). Closes v (refuses (refusal_of c.new.result))) c.in-ok-draft.ensures.is (
+    subst (λ (v : Verdict). Closes v (refuses (refusal_of c.new.result))) c.in_ok-draft.ensures.is (
       s,
       lowest_on text xs s built.0,
       ap refusal_of c.new.ensures

@@ -5,13 +5,13 @@ use Rattle.netlist.specs.Views.{signals_on}
 use Rattle.netlist.proofs.Stepwise.{driven_on, undriven_here, all_driven_lem}
 use Rattle.netlist.proofs.reader.check_driven.Goals as goal
 
-pub returns-then-not-is-driven : goal.returns-then-not-is-driven
-returns-then-not-is-driven c t =
+pub returns-then-not-is_driven : goal.returns-then-not-is_driven
+returns-then-not-is_driven c t =
     ap (λ f. refuses (refusal_of f)) c.new.ensures
-    ∙ ap (λ (ps : List ℕ). all_driven ps (signals_on t c.args.signals.now)) (sym (undriven_here t c.args.signals.now c.loop-s.s-index c.s-item.result c.loop-s-test.true c.s-item.is c.if-not-is-driven.ensures) ∙ c.loop-s.invariant t)
+    ∙ ap (λ (ps : List ℕ). all_driven ps (signals_on t c.args.signals.now)) (sym (undriven_here t c.args.signals.now c.loop-s.s-index c.s-item.result c.loop-s-test.true c.s-item.is c.if-not-is_driven.ensures) ∙ c.loop-s.invariant t)
 
 pub loop-s-preserved : goal.loop-s-preserved
-loop-s-preserved c t = sym (driven_on t c.args.signals.now c.loop-s.s-index c.s-item.result c.loop-s-test.true c.s-item.is c.if-not-is-driven.ensures) ∙ c.loop-s.invariant t
+loop-s-preserved c t = sym (driven_on t c.args.signals.now c.loop-s.s-index c.s-item.result c.loop-s-test.true c.s-item.is c.if-not-is_driven.ensures) ∙ c.loop-s.invariant t
 
 pub returns : goal.returns
 returns c t = ap (λ (ps : List ℕ). all_driven ps (signals_on t c.args.signals.now)) (sym (all_driven_lem t c.args.signals.now c.loop-s.s-index c.loop-s-test.false) ∙ c.loop-s.invariant t)

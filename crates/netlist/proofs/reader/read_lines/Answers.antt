@@ -9,33 +9,33 @@ use Rattle.netlist.proofs.Bodies.{carried}
 use Rattle.netlist.proofs.Stepwise.{lines_refused, lines_on}
 use Rattle.netlist.proofs.reader.read_lines.Goals as goal
 
-pub read-line-requires : goal.read-line-requires
-read-line-requires c = record { room = (omega (arith, c.requires.room, c.loop-from.invariant.3), (c.loop-from.invariant.1, omega (arith, c.requires.room, c.loop-from.invariant.2))); ends = c.line-end-end.ensures }
+pub read_line-requires : goal.read_line-requires
+read_line-requires c = record { room = (omega (arith, c.requires.room, c.loop-from.invariant.3), (c.loop-from.invariant.1, omega (arith, c.requires.room, c.loop-from.invariant.2))); ends = c.line_end-end.ensures }
 
-pub overflow-add-from : goal.overflow-add-from
-overflow-add-from c = omega (arith, c.requires.fits, end_within c.args.text.now c.loop-from.from c.line-end-end.result c.loop-from-test.true c.line-end-end.ensures)
+pub overflow_add-from : goal.overflow_add-from
+overflow_add-from c = omega (arith, c.requires.fits, end_within c.args.text.now c.loop-from.from c.line_end-end.result c.loop-from-test.true c.line_end-end.ensures)
 
 pub loop-from-smaller : goal.loop-from-smaller
-loop-from-smaller c = omega (arith, end_within c.args.text.now c.loop-from.from c.line-end-end.result c.loop-from-test.true c.line-end-end.ensures)
+loop-from-smaller c = omega (arith, end_within c.args.text.now c.loop-from.from c.line_end-end.result c.loop-from-test.true c.line_end-end.ensures)
 
 pub loop-from-init : goal.loop-from-init
 loop-from-init c = (ap (fold step_on (ongoing (state Before (signals_on c.args.text.now (vec_items c.args.signals.now))))) (lines_start c.args.text.now), c.requires.room.1.0, refl, refl)
 
 pub loop-from-preserved : goal.loop-from-preserved
 loop-from-preserved c = (
-  lines_on (state c.loop-from.stage (signals_on c.args.text.now (vec_items c.loop-from.signals))) _ _ _ _ (line_next c.args.text.now c.loop-from.from c.line-end-end.result c.loop-from-test.true c.line-end-end.ensures) c.loop-from.invariant.0 _ c.in-ok-stage.ensures.is,
-  c.in-ok-stage.ensures.few,
-  c.in-ok-stage.ensures.capacity ∙ c.loop-from.invariant.2,
-  c.in-ok-stage.ensures.words ∙ c.loop-from.invariant.3,
+  lines_on (state c.loop-from.stage (signals_on c.args.text.now (vec_items c.loop-from.signals))) _ _ _ _ (line_next c.args.text.now c.loop-from.from c.line_end-end.result c.loop-from-test.true c.line_end-end.ensures) c.loop-from.invariant.0 _ c.in_ok-stage.ensures.is,
+  c.in_ok-stage.ensures.few,
+  c.in_ok-stage.ensures.capacity ∙ c.loop-from.invariant.2,
+  c.in_ok-stage.ensures.words ∙ c.loop-from.invariant.3,
 )
 
-pub returns-in-err-stage : goal.returns-in-err-stage
-returns-in-err-stage c =
+pub returns-in_err-stage : goal.returns-in_err-stage
+returns-in_err-stage c =
     record {
       is =
-          carried (signals_on c.args.text.now (vec_items c.read-line.new.signals)) c.from-residual.result c.in-err-stage.field-0.0 c.from-residual.ensures.0 c.from-residual.ensures.1
-          ∙ lines_refused (state c.loop-from.stage (signals_on c.args.text.now (vec_items c.loop-from.signals))) _ _ _ _ (line_next c.args.text.now c.loop-from.from c.line-end-end.result c.loop-from-test.true c.line-end-end.ensures) c.loop-from.invariant.0 (refusal_of c.in-err-stage.field-0.0) c.in-err-stage.ensures.is;
-      few = c.in-err-stage.ensures.few;
+          carried (signals_on c.args.text.now (vec_items c.read_line.new.signals)) c.from_residual.result c.in_err-stage.field-0.0 c.from_residual.ensures.0 c.from_residual.ensures.1
+          ∙ lines_refused (state c.loop-from.stage (signals_on c.args.text.now (vec_items c.loop-from.signals))) _ _ _ _ (line_next c.args.text.now c.loop-from.from c.line_end-end.result c.loop-from-test.true c.line_end-end.ensures) c.loop-from.invariant.0 (refusal_of c.in_err-stage.field-0.0) c.in_err-stage.ensures.is;
+      few = c.in_err-stage.ensures.few;
     }
 
 pub returns : goal.returns

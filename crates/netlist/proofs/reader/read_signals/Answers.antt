@@ -6,10 +6,10 @@ use Rattle.netlist.proofs.reader.read_signals.Goals as goal
 
 pub returns : goal.returns
 returns c =
-    let e : netlist (signals_on c.args.text.now (vec_items c.read-lines.new.signals)) ≡ read c.args.text.now = search rules in
+    let e : netlist (signals_on c.args.text.now (vec_items c.read_lines.new.signals)) ≡ read c.args.text.now = search rules in
     record {
       is = e;
-      driven = accepted_driven c.args.text.now (vec_items c.read-lines.new.signals) e;
-      wired = accepted_wired c.args.text.now (vec_items c.read-lines.new.signals) e;
-      latched = accepted_latched c.args.text.now (vec_items c.read-lines.new.signals) e;
+      driven = accepted_driven c.args.text.now (vec_items c.read_lines.new.signals) e;
+      wired = accepted_wired c.args.text.now (vec_items c.read_lines.new.signals) e;
+      latched = accepted_latched c.args.text.now (vec_items c.read_lines.new.signals) e;
     }

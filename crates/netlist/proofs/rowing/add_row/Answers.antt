@@ -9,7 +9,7 @@ use Rattle.netlist.proofs.rowing.add_row.Goals as goal
 pub returns-in-Gated : goal.returns-in-Gated
 returns-in-Gated c t =
     ap (λ (d : spec.Driver). driven d (signal_on t c.args.signal))
-    (ap (λ (n : ℕ). gates (take n c.with-row.result.pins) (cover_on c.with-row.result)) c.with-row.ensures.count
-    ∙ (ap (λ (ps : List ℕ). gates (take c.in-Gated.gate.pin_count ps) (cover_on c.with-row.result)) c.with-row.ensures.pins
-    ∙ (ap (gates (take c.in-Gated.gate.pin_count c.in-Gated.gate.pins)) c.with-row.ensures.cover
+    (ap (λ (n : ℕ). gates (take n c.with_row.result.pins) (cover_on c.with_row.result)) c.with_row.ensures.count
+    ∙ (ap (λ (ps : List ℕ). gates (take c.in-Gated.gate.pin_count ps) (cover_on c.with_row.result)) c.with_row.ensures.pins
+    ∙ (ap (gates (take c.in-Gated.gate.pin_count c.in-Gated.gate.pins)) c.with_row.ensures.cover
     ∙ ap (λ d. rowed (driver_on t d) (row_on c.args.row)) (sym c.in-Gated.is))))

@@ -9,8 +9,8 @@ pub returns-then-g-len : goal.returns-then-g-len
 returns-then-g-len c =
     record {
       items =
-          λ t. row_here t (vec_items c.args.signals.now) c.in-Rows.g (add_row_lem (row_on c.args.row)) c.add-row.result c.index.result.now (omega (arith, c.if-g-len.true, c.len.ensures, c.args.signals.now.ok.0))
-          (c.add-row.ensures t ∙ ap (λ s. add_row_lem (row_on c.args.row) (signal_on t s)) c.index.ensures)
+          λ t. row_here t (vec_items c.args.signals.now) c.in-Rows.g (add_row_lem (row_on c.args.row)) c.add_row.result c.index.result.now (omega (arith, c.if-g-len.true, c.len.ensures, c.args.signals.now.ok.0))
+          (c.add_row.ensures t ∙ ap (λ s. add_row_lem (row_on c.args.row) (signal_on t s)) c.index.ensures)
           ∙ ap (λ s. row_at s (signals_on t (vec_items c.args.signals.now)) (row_on c.args.row)) (sym c.in-Rows.is);
       len = refl;
       capacity = refl;

@@ -7,5 +7,5 @@ use Rattle.netlist.proofs.rowing.row_joins.Goals as goal
 
 pub returns-in-Gated : goal.returns-in-Gated
 returns-in-Gated c t =
-    c.row-fits.ensures
+    c.row_fits.ensures
     ∙ (fits_pins c.in-Gated.gate (cover_on c.in-Gated.gate) (row_on c.args.row) ∙ sym (ap (λ d. row_joins_lem (driver_on t d) (row_on c.args.row)) c.in-Gated.is))

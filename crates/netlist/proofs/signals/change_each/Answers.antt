@@ -6,9 +6,9 @@ use Rattle.netlist.proofs.signals.change_each.Goals as goal
 
 pub loop-w-preserved : goal.loop-w-preserved
 loop-w-preserved c = (
-  each_more c.args.text.now (change_on c.args.text.now c.args.change) (signals_on c.args.text.now (vec_items c.loop-w.signals)) c.args.names.now c.loop-w.w-index _ no_span _ c.loop-w-test.true c.change-named.ensures.items c.loop-w.invariant.0,
-  c.change-named.ensures.len ∙ c.loop-w.invariant.1,
-  c.change-named.ensures.capacity ∙ c.loop-w.invariant.2,
+  each_more c.args.text.now (change_on c.args.text.now c.args.change) (signals_on c.args.text.now (vec_items c.loop-w.signals)) c.args.names.now c.loop-w.w-index _ no_span _ c.loop-w-test.true c.change_named.ensures.items c.loop-w.invariant.0,
+  c.change_named.ensures.len ∙ c.loop-w.invariant.1,
+  c.change_named.ensures.capacity ∙ c.loop-w.invariant.2,
 )
 
 pub returns : goal.returns

@@ -7,8 +7,8 @@ use Rattle.netlist.proofs.signals.pin_numbers.Goals as goal
 
 pub loop-i-preserved : goal.loop-i-preserved
 loop-i-preserved c = (
-  pins_more c.args.text.now (signals_on c.args.text.now c.args.signals.now) c.args.pins.now c.loop-i.found c.loop-i.i no_span c.number-of.result (piece_of c.word-at.result) c.loop-i-test.true (omega (arith, c.loop-i.invariant.1)) c.number-of.ensures.is c.word-at.ensures c.loop-i.invariant.0,
-  length-set c.loop-i.found c.loop-i.i c.number-of.result ∙ c.loop-i.invariant.1,
+  pins_more c.args.text.now (signals_on c.args.text.now c.args.signals.now) c.args.pins.now c.loop-i.found c.loop-i.i no_span c.number_of.result (piece_of c.word_at.result) c.loop-i-test.true (omega (arith, c.loop-i.invariant.1)) c.number_of.ensures.is c.word_at.ensures c.loop-i.invariant.0,
+  length-set c.loop-i.found c.loop-i.i c.number_of.result ∙ c.loop-i.invariant.1,
 )
 
 pub returns : goal.returns

@@ -4,14 +4,14 @@ use Rattle.netlist.specs.Views.{pieces}
 use Rattle.netlist.proofs.Passes.{words_more, words_end}
 use Rattle.netlist.proofs.spans.line_words.Goals as goal
 
-pub overflow-add-at : goal.overflow-add-at
-overflow-add-at c = let w = c.in-Some.ensures.within in omega (arith, w)
+pub overflow_add-at : goal.overflow_add-at
+overflow_add-at c = let w = c.in-Some.ensures.within in omega (arith, w)
 
 pub loop-word-smaller : goal.loop-word-smaller
 loop-word-smaller c = let w = c.in-Some.ensures.within in omega (arith, w)
 
-pub push-reserved-requires : goal.push-reserved-requires
-push-reserved-requires c = let w = c.in-Some.ensures.within in omega (arith, w, c.loop-word.invariant.1, c.loop-word.invariant.2)
+pub push_reserved-requires : goal.push_reserved-requires
+push_reserved-requires c = let w = c.in-Some.ensures.within in omega (arith, w, c.loop-word.invariant.1, c.loop-word.invariant.2)
 
 pub loop-word-init : goal.loop-word-init
 loop-word-init c = (ap (λ xs. pieces c.args.text.now xs ++ words c.args.from (drop c.args.from c.args.text.now)) c.clear.ensures.items, omega arith, refl)
@@ -19,10 +19,10 @@ loop-word-init c = (ap (λ xs. pieces c.args.text.now xs ++ words c.args.from (d
 pub loop-word-preserved : goal.loop-word-preserved
 loop-word-preserved c =
     let v = c.in-Some.ensures.within in (
-      words_more c.args.text.now (vec_items c.loop-word.found) c.in-Some.word.at c.in-Some.word.text.now _ _ _ _ c.push-reserved.ensures.items c.in-Some.ensures.part c.in-Some.ensures.found c.loop-word.invariant.0,
+      words_more c.args.text.now (vec_items c.loop-word.found) c.in-Some.word.at c.in-Some.word.text.now _ _ _ _ c.push_reserved.ensures.items c.in-Some.ensures.part c.in-Some.ensures.found c.loop-word.invariant.0,
       omega (arith, v, c.loop-word.invariant.1),
-      c.push-reserved.ensures.capacity ∙ c.loop-word.invariant.2,
+      c.push_reserved.ensures.capacity ∙ c.loop-word.invariant.2,
     )
 
 pub returns : goal.returns
-returns c = record { items = words_end _ c.in-default.ensures.found c.loop-word.invariant.0; capacity = c.loop-word.invariant.2 ∙ c.clear.ensures.capacity }
+returns c = record { items = words_end _ c.in_default.ensures.found c.loop-word.invariant.0; capacity = c.loop-word.invariant.2 ∙ c.clear.ensures.capacity }

@@ -11,13 +11,13 @@ use Rattle.netlist.proofs.Firsts.{some_none, err_is}
 use Rattle.netlist.proofs.Judging.{long_found, long_none}
 use Rattle.netlist.proofs.statements.admit.Goals as goal
 
-pub returns-in-err-check-names : goal.returns-in-err-check-names
-returns-in-err-check-names c =
+pub returns-in_err-check_names : goal.returns-in_err-check_names
+returns-in_err-check_names c =
     let s = state c.args.stage (signals_on c.args.text.now (vec_items c.args.signals.now)) in
     let ns = pieces c.args.text.now c.args.names.now in
-    let e : refusal c.from-residual.result ≡ Some (words.refusal_of c.in-err-check-names.field-0.0) = ap refusal (err_is c.from-residual.result (OfWord c.in-err-check-names.field-0.0) c.from-residual.ensures.0 c.from-residual.ensures.1) in
+    let e : refusal c.from_residual.result ≡ Some (words.refusal_of c.in_err-check_names.field-0.0) = ap refusal (err_is c.from_residual.result (OfWord c.in_err-check_names.field-0.0) c.from_residual.ensures.0 c.from_residual.ensures.1) in
     record {
-      fault = e ∙ admit_long s c.args.at ns (ltb 4 c.args.pins) c.if-not-in-body.ensures c.if-has-dotted.ensures (words.refusal_of c.in-err-check-names.field-0.0) (long_found (long_names ns) c.in-err-check-names.field-0.0 c.in-err-check-names.ensures);
+      fault = e ∙ admit_long s c.args.at ns (ltb 4 c.args.pins) c.if-not-in_body.ensures c.if-has_dotted.ensures (words.refusal_of c.in_err-check_names.field-0.0) (long_found (long_names ns) c.in_err-check_names.field-0.0 c.in_err-check_names.ensures);
       done = λ n. absurd (some_none (sym e ∙ n));
       pins = λ n. absurd (some_none (sym e ∙ n));
       few = c.requires.room.0;
@@ -29,7 +29,7 @@ returns-then-pins-gt4 c =
     let s = state c.args.stage (signals_on c.args.text.now (vec_items c.args.signals.now)) in
     let ns = pieces c.args.text.now c.args.names.now in
     record {
-      fault = ap (λ f. Some (refusal_of f)) c.new-then-pins-gt4.ensures ∙ admit_pins s c.args.at ns (ltb 4 c.args.pins) c.if-not-in-body.ensures c.if-has-dotted.ensures (long_none (long_names ns) c.in-ok-check-names.ensures) (lt-ltb 4 c.args.pins c.if-pins-gt4.true);
+      fault = ap (λ f. Some (refusal_of f)) c.new-then-pins-gt4.ensures ∙ admit_pins s c.args.at ns (ltb 4 c.args.pins) c.if-not-in_body.ensures c.if-has_dotted.ensures (long_none (long_names ns) c.in_ok-check_names.ensures) (lt-ltb 4 c.args.pins c.if-pins-gt4.true);
       done = λ e. absurd (some_none e);
       pins = λ e. absurd (some_none e);
       few = c.requires.room.0;
@@ -41,9 +41,9 @@ returns c =
     let s = state c.args.stage (signals_on c.args.text.now (vec_items c.args.signals.now)) in
     let ns = pieces c.args.text.now c.args.names.now in
     record {
-      fault = admit_many s c.args.at ns (ltb 4 c.args.pins) c.if-not-in-body.ensures c.if-has-dotted.ensures (long_none (long_names ns) c.in-ok-check-names.ensures) (le-ltb 4 c.args.pins c.if-pins-gt4.false) c.mention-all.ensures.fault;
-      done = c.mention-all.ensures.done;
+      fault = admit_many s c.args.at ns (ltb 4 c.args.pins) c.if-not-in_body.ensures c.if-has_dotted.ensures (long_none (long_names ns) c.in_ok-check_names.ensures) (le-ltb 4 c.args.pins c.if-pins-gt4.false) c.mention_all.ensures.fault;
+      done = c.mention_all.ensures.done;
       pins = λ e. c.if-pins-gt4.false;
-      few = c.mention-all.ensures.few;
-      capacity = c.mention-all.ensures.capacity;
+      few = c.mention_all.ensures.few;
+      capacity = c.mention_all.ensures.capacity;
     }

@@ -14,41 +14,41 @@ use Rattle.netlist.proofs.Passes.{no_span}
 use Rattle.netlist.proofs.Shapes.{latch_short, latch_no, rest_few}
 use Rattle.netlist.proofs.statements.read_latch.Goals as goal
 
-pub returns-in-default : goal.returns-in-default
-returns-in-default c =
+pub returns-in_default : goal.returns-in_default
+returns-in_default c =
     record {
       is = ap (λ f. refused (refusal_of f)) c.new.ensures ∙ wrong_refused (state c.args.stage (signals_on c.args.text.now (vec_items c.args.signals.now))) c.args.at (latch_of (pieces c.args.text.now c.args.rest.now)) (latch_short c.args.text.now c.args.rest.now (omega (arith, ltb-true, ltb-false)));
       few = c.requires.room.0;
       capacity = refl;
     }
 
-pub returns-then-not-latch-rest : goal.returns-then-not-latch-rest
-returns-then-not-latch-rest c =
+pub returns-then-not-latch_rest : goal.returns-then-not-latch_rest
+returns-then-not-latch_rest c =
     record {
-      is = ap (λ f. refused (refusal_of f)) c.new-then-not-latch-rest.ensures ∙ wrong_refused (state c.args.stage (signals_on c.args.text.now (vec_items c.args.signals.now))) c.args.at (latch_of (pieces c.args.text.now c.args.rest.now)) (latch_no c.args.text.now c.args.rest.now _ (omega (arith, ltb-true, ltb-false)) (take_rest c.args.rest.now 2) c.if-not-latch-rest.ensures);
+      is = ap (λ f. refused (refusal_of f)) c.new-then-not-latch_rest.ensures ∙ wrong_refused (state c.args.stage (signals_on c.args.text.now (vec_items c.args.signals.now))) c.args.at (latch_of (pieces c.args.text.now c.args.rest.now)) (latch_no c.args.text.now c.args.rest.now _ (omega (arith, ltb-true, ltb-false)) (take_rest c.args.rest.now 2) c.if-not-latch_rest.ensures);
       few = c.requires.room.0;
       capacity = refl;
     }
 
-pub returns-in-err-admit : goal.returns-in-err-admit
-returns-in-err-admit c =
+pub returns-in_err-admit : goal.returns-in_err-admit
+returns-in_err-admit c =
     let s = state c.args.stage (signals_on c.args.text.now (vec_items c.args.signals.now)) in
     let ws = take (length c.args.rest.now - 2) (drop 2 c.args.rest.now) in
     record {
-      is = carried _ c.from-residual.result c.in-err-admit.field-0.0 c.from-residual.ensures.0 c.from-residual.ensures.1 ∙ latch_stops c.args.text.now s c.args.at c.args.rest.now ws no_span (omega (arith, ltb-true, ltb-false)) (take_rest c.args.rest.now 2) c.if-not-latch-rest.ensures (take 2 c.args.rest.now) refl (refusal_of c.in-err-admit.field-0.0) c.in-err-admit.ensures.fault;
-      few = c.in-err-admit.ensures.few;
-      capacity = c.in-err-admit.ensures.capacity;
+      is = carried _ c.from_residual.result c.in_err-admit.field-0.0 c.from_residual.ensures.0 c.from_residual.ensures.1 ∙ latch_stops c.args.text.now s c.args.at c.args.rest.now ws no_span (omega (arith, ltb-true, ltb-false)) (take_rest c.args.rest.now 2) c.if-not-latch_rest.ensures (take 2 c.args.rest.now) refl (refusal_of c.in_err-admit.field-0.0) c.in_err-admit.ensures.fault;
+      few = c.in_err-admit.ensures.few;
+      capacity = c.in_err-admit.ensures.capacity;
     }
 
-pub returns-in-err-check-driver : goal.returns-in-err-check-driver
-returns-in-err-check-driver c =
+pub returns-in_err-check_driver : goal.returns-in_err-check_driver
+returns-in_err-check_driver c =
     let s = state c.args.stage (signals_on c.args.text.now (vec_items c.args.signals.now)) in
     let ws = take (length c.args.rest.now - 2) (drop 2 c.args.rest.now) in
     let now = signals_on c.args.text.now (vec_items c.admit.new.signals) in
     record {
-      is = carried now c.from-residual-in-err-check-driver.result c.in-err-check-driver.field-0.0 c.from-residual-in-err-check-driver.ensures.0 c.from-residual-in-err-check-driver.ensures.1 ∙ latch_twice c.args.text.now s c.args.at c.args.rest.now ws no_span (omega (arith, ltb-true, ltb-false)) (take_rest c.args.rest.now 2) c.if-not-latch-rest.ensures (take 2 c.args.rest.now) refl c.in-ok-admit.ensures.fault now (c.in-ok-admit.ensures.done refl) (refusal_of c.in-err-check-driver.field-0.0) (c.in-err-check-driver.ensures ∙ ap (λ v. first_of (Twice (signals_on c.args.text.now v) (piece_on c.args.text.now (get_or c.args.rest.now 1 no_span) ∷ []))) c.deref.ensures.value);
-      few = c.in-ok-admit.ensures.few;
-      capacity = c.in-ok-admit.ensures.capacity;
+      is = carried now c.from_residual-in_err-check_driver.result c.in_err-check_driver.field-0.0 c.from_residual-in_err-check_driver.ensures.0 c.from_residual-in_err-check_driver.ensures.1 ∙ latch_twice c.args.text.now s c.args.at c.args.rest.now ws no_span (omega (arith, ltb-true, ltb-false)) (take_rest c.args.rest.now 2) c.if-not-latch_rest.ensures (take 2 c.args.rest.now) refl c.in_ok-admit.ensures.fault now (c.in_ok-admit.ensures.done refl) (refusal_of c.in_err-check_driver.field-0.0) (c.in_err-check_driver.ensures ∙ ap (λ v. first_of (Twice (signals_on c.args.text.now v) (piece_on c.args.text.now (get_or c.args.rest.now 1 no_span) ∷ []))) c.deref.ensures.value);
+      few = c.in_ok-admit.ensures.few;
+      capacity = c.in_ok-admit.ensures.capacity;
     }
 
 pub returns : goal.returns
@@ -58,11 +58,11 @@ returns c =
     let now = signals_on c.args.text.now (vec_items c.admit.new.signals) in
     record {
       is =
-          latch_done c.args.text.now s c.args.at c.args.rest.now ws no_span (omega (arith, ltb-true, ltb-false)) (take_rest c.args.rest.now 2) c.if-not-latch-rest.ensures (take 2 c.args.rest.now) refl c.in-ok-admit.ensures.fault now (c.in-ok-admit.ensures.done refl) c.latch-words-latch.result.input (trigger_words c.latch-words-latch.result.trigger ++ initial_word c.latch-words-latch.result.initial) (signals_on c.args.text.now (vec_items c.change-named.new.signals)) (signals_on c.args.text.now (vec_items c.change-named-2.new.signals))
-          (c.in-ok-check-driver.ensures ∙ ap (λ v. first_of (Twice (signals_on c.args.text.now v) (piece_on c.args.text.now (get_or c.args.rest.now 1 no_span) ∷ []))) c.deref.ensures.value)
-          (c.latch-words-latch.ensures.input ∙ (c.number-of-number.ensures.is ∙ (ap (λ v. number_of (signals_on c.args.text.now v) c.word-at.result.text.now) c.deref-2.ensures.value ∙ ap (λ (p : Piece). number_of now p.bytes) c.word-at.ensures)))
-          (c.latch-words-latch.ensures.words (rest_few c.args.text.now ws (sym c.if-not-latch-rest.ensures)))
-          c.change-named.ensures.items c.change-named-2.ensures.items;
-      few = omega (arith, c.change-named-2.ensures.len, c.change-named.ensures.len, c.in-ok-admit.ensures.few);
-      capacity = c.change-named-2.ensures.capacity ∙ (c.change-named.ensures.capacity ∙ c.in-ok-admit.ensures.capacity);
+          latch_done c.args.text.now s c.args.at c.args.rest.now ws no_span (omega (arith, ltb-true, ltb-false)) (take_rest c.args.rest.now 2) c.if-not-latch_rest.ensures (take 2 c.args.rest.now) refl c.in_ok-admit.ensures.fault now (c.in_ok-admit.ensures.done refl) c.latch_words-latch.result.input (trigger_words c.latch_words-latch.result.trigger ++ initial_word c.latch_words-latch.result.initial) (signals_on c.args.text.now (vec_items c.change_named.new.signals)) (signals_on c.args.text.now (vec_items c.change_named-2.new.signals))
+          (c.in_ok-check_driver.ensures ∙ ap (λ v. first_of (Twice (signals_on c.args.text.now v) (piece_on c.args.text.now (get_or c.args.rest.now 1 no_span) ∷ []))) c.deref.ensures.value)
+          (c.latch_words-latch.ensures.input ∙ (c.number_of-number.ensures.is ∙ (ap (λ v. number_of (signals_on c.args.text.now v) c.word_at.result.text.now) c.deref-2.ensures.value ∙ ap (λ (p : Piece). number_of now p.bytes) c.word_at.ensures)))
+          (c.latch_words-latch.ensures.words (rest_few c.args.text.now ws (sym c.if-not-latch_rest.ensures)))
+          c.change_named.ensures.items c.change_named-2.ensures.items;
+      few = omega (arith, c.change_named-2.ensures.len, c.change_named.ensures.len, c.in_ok-admit.ensures.few);
+      capacity = c.change_named-2.ensures.capacity ∙ (c.change_named.ensures.capacity ∙ c.in_ok-admit.ensures.capacity);
     }

@@ -11,31 +11,31 @@ use Rattle.netlist.proofs.Bodies.{carried}
 use Rattle.netlist.proofs.Judging.{wrong_refused, model_other, model_is, model_late, model_long, model_done}
 use Rattle.netlist.proofs.Passes.{no_span}
 use Rattle.netlist.proofs.statements.read_model.Goals as goal
-use Rattle.netlist.proofs.statements.read_model.Goals.{in-default-via-then-rest-lt1, in-default-via-else-rest-lt1+else-rest-lt2}
+use Rattle.netlist.proofs.statements.read_model.Goals.{in_default-via-then-rest-lt1, in_default-via-else-rest-lt1+else-rest-lt2}
 
-pub returns-in-default : goal.returns-in-default
-returns-in-default c =
+pub returns-in_default : goal.returns-in_default
+returns-in_default c =
     let s = state c.args.stage (signals_on c.args.text.now c.args.signals.now) in
-    let other : length c.args.rest.now ≡ 1 → ⊥ = elim c.in-default.branch [ in-default-via-then-rest-lt1 w ↦ λ e. omega (arith, ltb-true, ltb-false) | in-default-via-else-rest-lt1+else-rest-lt2 w ↦ λ e. omega (arith, ltb-true, ltb-false) ] in
+    let other : length c.args.rest.now ≡ 1 → ⊥ = elim c.in_default.branch [ in_default-via-then-rest-lt1 w ↦ λ e. omega (arith, ltb-true, ltb-false) | in_default-via-else-rest-lt1+else-rest-lt2 w ↦ λ e. omega (arith, ltb-true, ltb-false) ] in
     ap (λ f. refused (refusal_of f)) c.new.ensures
     ∙ wrong_refused s c.args.at (model_of (pieces c.args.text.now c.args.rest.now)) (model_other c.args.text.now c.args.stage (signals_on c.args.text.now c.args.signals.now) c.args.at c.args.rest.now other)
 
-pub returns-then-not-at-start : goal.returns-then-not-at-start
-returns-then-not-at-start c =
+pub returns-then-not-at_start : goal.returns-then-not-at_start
+returns-then-not-at_start c =
     let ss = signals_on c.args.text.now c.args.signals.now in
-    ap (λ f. refused (refusal_of f)) c.new-then-not-at-start.ensures
-    ∙ (model_late c.args.text.now c.args.stage ss c.args.at (piece_on c.args.text.now (get_or c.args.rest.now 0 no_span)) c.if-not-at-start.ensures
+    ap (λ f. refused (refusal_of f)) c.new-then-not-at_start.ensures
+    ∙ (model_late c.args.text.now c.args.stage ss c.args.at (piece_on c.args.text.now (get_or c.args.rest.now 0 no_span)) c.if-not-at_start.ensures
     ∙ ap (first_judged (state c.args.stage ss) c.args.at) (model_is c.args.text.now c.args.stage ss c.args.at c.args.rest.now no_span (omega (arith, ltb-true, ltb-false))))
 
-pub returns-in-err-check-name : goal.returns-in-err-check-name
-returns-in-err-check-name c =
+pub returns-in_err-check_name : goal.returns-in_err-check_name
+returns-in_err-check_name c =
     let ss = signals_on c.args.text.now c.args.signals.now in
-    carried ss c.from-residual.result (OfWord c.in-err-check-name.field-0.0) c.from-residual.ensures.0 c.from-residual.ensures.1
-    ∙ (model_long c.args.text.now c.args.stage ss c.args.at (piece_on c.args.text.now (get_or c.args.rest.now 0 no_span)) (piece_of c.word-at.result) c.in-err-check-name.field-0.0 c.if-not-at-start.ensures c.word-at.ensures c.in-err-check-name.ensures
+    carried ss c.from_residual.result (OfWord c.in_err-check_name.field-0.0) c.from_residual.ensures.0 c.from_residual.ensures.1
+    ∙ (model_long c.args.text.now c.args.stage ss c.args.at (piece_on c.args.text.now (get_or c.args.rest.now 0 no_span)) (piece_of c.word_at.result) c.in_err-check_name.field-0.0 c.if-not-at_start.ensures c.word_at.ensures c.in_err-check_name.ensures
     ∙ ap (first_judged (state c.args.stage ss) c.args.at) (model_is c.args.text.now c.args.stage ss c.args.at c.args.rest.now no_span (omega (arith, ltb-true, ltb-false))))
 
 pub returns : goal.returns
 returns c =
     let ss = signals_on c.args.text.now c.args.signals.now in
-    model_done c.args.text.now c.args.stage ss c.args.at (piece_on c.args.text.now (get_or c.args.rest.now 0 no_span)) (piece_of c.word-at.result) (omega (arith, length-map c.args.signals.now (signal_on c.args.text.now), c.requires)) c.if-not-at-start.ensures c.word-at.ensures c.in-ok-check-name.ensures
+    model_done c.args.text.now c.args.stage ss c.args.at (piece_on c.args.text.now (get_or c.args.rest.now 0 no_span)) (piece_of c.word_at.result) (omega (arith, length-map c.args.signals.now (signal_on c.args.text.now), c.requires)) c.if-not-at_start.ensures c.word_at.ensures c.in_ok-check_name.ensures
     ∙ ap (first_judged (state c.args.stage ss) c.args.at) (model_is c.args.text.now c.args.stage ss c.args.at c.args.rest.now no_span (omega (arith, ltb-true, ltb-false)))

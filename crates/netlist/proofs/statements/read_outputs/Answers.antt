@@ -9,14 +9,14 @@ use Rattle.netlist.specs.Views.{pieces, signals_on}
 use Rattle.netlist.proofs.Bodies.{carried, stop_names, no_fault}
 use Rattle.netlist.proofs.statements.read_outputs.Goals as goal
 
-pub returns-in-err-admit : goal.returns-in-err-admit
-returns-in-err-admit c =
+pub returns-in_err-admit : goal.returns-in_err-admit
+returns-in_err-admit c =
     let s = state c.args.stage (signals_on c.args.text.now (vec_items c.args.signals.now)) in
     let ns = pieces c.args.text.now c.args.names.now in
     record {
-      is = carried _ c.from-residual.result c.in-err-admit.field-0.0 c.from-residual.ensures.0 c.from-residual.ensures.1 ∙ stop_names s c.args.at ns false [] (effect s (outputs ns)) (refusal_of c.in-err-admit.field-0.0) c.in-err-admit.ensures.fault;
-      few = c.in-err-admit.ensures.few;
-      capacity = c.in-err-admit.ensures.capacity;
+      is = carried _ c.from_residual.result c.in_err-admit.field-0.0 c.from_residual.ensures.0 c.from_residual.ensures.1 ∙ stop_names s c.args.at ns false [] (effect s (outputs ns)) (refusal_of c.in_err-admit.field-0.0) c.in_err-admit.ensures.fault;
+      few = c.in_err-admit.ensures.few;
+      capacity = c.in_err-admit.ensures.capacity;
     }
 
 pub returns : goal.returns
@@ -24,9 +24,9 @@ returns c =
     let s = state c.args.stage (signals_on c.args.text.now (vec_items c.args.signals.now)) in
     let ns = pieces c.args.text.now c.args.names.now in
     let now = signals_on c.args.text.now (vec_items c.admit.new.signals) in
-    let d = c.in-ok-admit.ensures.done refl in
+    let d = c.in_ok-admit.ensures.done refl in
     record {
-      is = no_fault s c.args.at ns false [] (effect s (outputs ns)) c.in-ok-admit.ensures.fault now d (state Body (signals_on c.args.text.now (vec_items c.change-each.new.signals))) refl (ap (state Body) (c.change-each.ensures.items ∙ ap (λ (xs : List spec.Signal). on_each as_output xs ns) d));
-      few = omega (arith, c.change-each.ensures.len, c.in-ok-admit.ensures.few);
-      capacity = c.change-each.ensures.capacity ∙ c.in-ok-admit.ensures.capacity;
+      is = no_fault s c.args.at ns false [] (effect s (outputs ns)) c.in_ok-admit.ensures.fault now d (state Body (signals_on c.args.text.now (vec_items c.change_each.new.signals))) refl (ap (state Body) (c.change_each.ensures.items ∙ ap (λ (xs : List spec.Signal). on_each as_output xs ns) d));
+      few = omega (arith, c.change_each.ensures.len, c.in_ok-admit.ensures.few);
+      capacity = c.change_each.ensures.capacity ∙ c.in_ok-admit.ensures.capacity;
     }

@@ -4,4 +4,4 @@ use Rattle.rows.proofs.Matching.{or_bit}
 use Rattle.rows.proofs.settings.with_settings.Goals as goal
 
 pub returns : goal.returns
-returns c = λ s h. or_bit c.args.matched c.row-settings.result s ∙ ap (max (bit_of c.args.matched s)) (c.row-settings.ensures s h)
+returns c = λ s h. or_bit c.args.matched c.row_settings.result s ∙ ap (max (bit_of c.args.matched s)) (c.row_settings.ensures s h)
