@@ -1,6 +1,6 @@
 -- A board as plain data.
 use Rattle.std.specs.Prelude.{◌*◌, Bool, ◌||◌, List, length, nat_lt}
-use Rattle.std.specs.Borrow.{Bor}
+use Rattle.std.specs.Borrow.{MutBor}
 use Rattle.network.specs.Net.{size}
 use Rattle.network.specs.declared.network.Network.{Network}
 use Rattle.opening.specs.declared.board.Board.{Board}
@@ -16,7 +16,7 @@ abbrev pub view_of : {V : Type 0} → Board V → View V
 view_of board = record { network = board.network.now; starts = board.starts.now; weights = board.weights.now; values = board.values.now }
 
 -- the same, of a board that was handed in, at the return
-abbrev pub view_at : {V : Type 0} → Bor Network × (Bor (List V) × (Bor (List V) × (Bor (List V) × Unit {0}))) → View V
+abbrev pub view_at : {V : Type 0} → MutBor Network × (MutBor (List V) × (MutBor (List V) × (MutBor (List V) × Unit {0}))) → View V
 view_at (network, (starts, (weights, (values, end)))) = record { network = network.now; starts = starts.now; weights = weights.now; values = values.now }
 
 -- a table has too few cells

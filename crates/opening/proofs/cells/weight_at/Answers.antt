@@ -7,7 +7,7 @@ use Rattle.opening.proofs.cells.weight_at.Goals as goal
 
 pub returns-in-Some : goal.returns-in-Some
 returns-in-Some g c =
-    c.driver-weight.ensures
+    c.driver_weight.ensures
     ∙ ap (λ (d : Driver). driver_weight_lem g.G.Semiring.ops g.G.Gauge.delays d c.args.pin c.args.times) (driver_there (signals c.args.network.now) c.args.signal c.in-Some.driver c.in-Some.ensures)
 
 pub returns-in-None : goal.returns-in-None

@@ -14,6 +14,6 @@ returns g c =
     let fs = fields entry_of c.args.file.now in
     let well = accepted_well_named (outline_of net) c.args.file.now c.requires.accepted in
     record {
-      starts = starts_filled r delays net (edge_ops r).zero fs well c.args.starts.now c.fill-starts.new.starts c.fill-entries.new.starts c.requires.starts_long c.fill-starts.ensures c.fill-entries.ensures.starts;
-      weights = weights_filled r delays net (edge_ops r).zero fs well c.args.weights.now c.fill-weights.new.weights c.fill-entries.new.weights c.requires.weights_long c.fill-weights.ensures c.fill-entries.ensures.weights;
+      starts = starts_filled r delays net (edge_ops r).zero fs well c.args.starts.now c.fill_starts.new.starts c.fill_entries.new.starts c.requires.starts_long c.fill_starts.ensures c.fill_entries.ensures.starts;
+      weights = weights_filled r delays net (edge_ops r).zero fs well c.args.weights.now c.fill_weights.new.weights c.fill_entries.new.weights c.requires.weights_long c.fill_weights.ensures c.fill_entries.ensures.weights;
     }

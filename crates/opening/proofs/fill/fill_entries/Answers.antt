@@ -14,7 +14,7 @@ loop-at-init g c = ((accepted_well_named (outline_of c.args.network.now) c.args.
 
 pub unreachable-requires : goal.unreachable-requires
 unreachable-requires g c =
-    never_stops (outline_of c.args.network.now) c.args.file.now c.loop-at.at c.loop-at.invariant.0 c.loop-at-test.true c.read-entry.result c.read-entry.ensures c.in-default.not-Ok
+    never_stops (outline_of c.args.network.now) c.args.file.now c.loop-at.at c.loop-at.invariant.0 c.loop-at-test.true c.read_entry.result c.read_entry.ensures c.in_default.not-Ok
 
 pub loop-at-preserved : goal.loop-at-preserved
 loop-at-preserved g c =
@@ -26,8 +26,8 @@ loop-at-preserved g c =
     let goes = c.in-Ok.ensures.goes entry next refl in
     let P : List (Placed Entry) → Type 0 = λ fs. All (λ f. Fits (outline_of net) f.said) fs in (
       (subst P goes c.loop-at.invariant.0).1,
-      written_more (starts_with g.G.Semiring.ops g.G.Gauge.delays net) file at next entry c.loop-at.starts c.fill-entry.new.starts _ goes c.fill-entry.ensures.starts c.loop-at.invariant.1,
-      written_more (weights_with g.G.Semiring.ops g.G.Gauge.delays net) file at next entry c.loop-at.weights c.fill-entry.new.weights _ goes c.fill-entry.ensures.weights c.loop-at.invariant.2,
+      written_more (starts_with g.G.Semiring.ops g.G.Gauge.delays net) file at next entry c.loop-at.starts c.fill_entry.new.starts _ goes c.fill_entry.ensures.starts c.loop-at.invariant.1,
+      written_more (weights_with g.G.Semiring.ops g.G.Gauge.delays net) file at next entry c.loop-at.weights c.fill_entry.new.weights _ goes c.fill_entry.ensures.weights c.loop-at.invariant.2,
     )
 
 pub returns : goal.returns

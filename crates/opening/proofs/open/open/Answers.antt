@@ -5,10 +5,10 @@ use Rattle.opening.proofs.Agreeing.{fits, opened}
 use Rattle.opening.proofs.Answering.{roomy, answered}
 use Rattle.opening.proofs.open.open.Goals as goal
 
-pub work-all-count-requires : goal.work-all-count-requires
-work-all-count-requires g c =
+pub work_all-count-requires : goal.work_all-count-requires
+work_all-count-requires g c =
     let board = c.args.board in
-    let long = roomy (view_of board) c.limit.result c.in-ok-check-room.ensures in
+    let long = roomy (view_of board) c.limit.result c.in_ok-check_room.ensures in
     fits board.network.now c.fill.new.starts c.fill.new.weights board.values.now
     (omega (arith, c.fill.auto.starts, long.starts)) (omega (arith, c.fill.auto.weights, long.weights)) long.values
 
@@ -17,12 +17,12 @@ returns g c =
     let board = c.args.board in
     let view = view_of board in
     let file = c.args.file.now in
-    let worked = c.work-all-count.ensures in
+    let worked = c.work_all-count.ensures in
     let room : Ok tt ≡ room_of view (g.W.WaitingList.limit c.args.list.now) = search rules in
     let long = roomy view _ room in
     record {
-      answers = answered view _ file room c.in-ok-clock.clock c.in-ok-clock.ensures c.work-all-count.result worked.count;
-      board = opened g.G.Semiring.ops g.G.Gauge.delays board.network.now file board.starts.now board.weights.now g.met.G.Semiring.laws board.values.now c.fill.new.starts c.fill.new.weights c.work-all-count.new.values c.fill.ensures.starts c.fill.ensures.weights long.values c.work-all-count.auto.values worked.past worked.sums;
+      answers = answered view _ file room c.in_ok-clock.clock c.in_ok-clock.ensures c.work_all-count.result worked.count;
+      board = opened g.G.Semiring.ops g.G.Gauge.delays board.network.now file board.starts.now board.weights.now g.met.G.Semiring.laws board.values.now c.fill.new.starts c.fill.new.weights c.work_all-count.new.values c.fill.ensures.starts c.fill.ensures.weights long.values c.work_all-count.auto.values worked.past worked.sums;
       empty = worked.empty;
       limit = search rules;
     }

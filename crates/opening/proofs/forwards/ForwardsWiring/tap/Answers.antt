@@ -12,8 +12,8 @@ there net s k h = omega (arith, length-map-range_with_len (tap_of net s) 0 (fani
 pub feeder-requires : goal.feeder-requires
 feeder-requires c = there c.args.self.now.network.now c.args.signal c.args.place c.requires.place
 
-pub overflow-add-result : goal.overflow-add-result
-overflow-add-result c =
+pub overflow_add-result : goal.overflow_add-result
+overflow_add-result c =
     let net = c.args.self.now.network.now in
     omega (arith, there net c.args.signal c.args.place c.requires.place, (small net).pins c.args.signal, net.few, c.requires.signal)
 

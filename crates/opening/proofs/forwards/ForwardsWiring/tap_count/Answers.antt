@@ -7,4 +7,4 @@ use Rattle.opening.proofs.forwards.ForwardsWiring.tap_count.Goals as goal
 pub returns : goal.returns
 returns c =
     let net = c.args.self.now.network.now in
-    c.pin_count_is.ensures.is ∙ sym (length-map-range_with_len (tap_of net c.args.signal) 0 (fanin net c.args.signal))
+    c.pin_count.ensures.is ∙ sym (length-map-range_with_len (tap_of net c.args.signal) 0 (fanin net c.args.signal))
