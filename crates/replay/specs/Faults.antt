@@ -3,8 +3,8 @@ use Rattle.fault.specs.declared.cause.Cause.TheVariants as cause
 use Rattle.fault.specs.declared.refusal.Refusal.{Refusal}
 use Rattle.delays.specs.Faults as delays
 use Rattle.netlist.specs.Outcomes as netlist
-use Rattle.replay.specs.declared.fault.ReplayFault.{ReplayFault}
-use Rattle.replay.specs.declared.fault.ReplayFault.TheVariants.{TooFewCells, Netlist, Delays}
+use Rattle.replay.specs.declared.faults.ReplayFault.{ReplayFault}
+use Rattle.replay.specs.declared.faults.ReplayFault.TheVariants.{TooFewCells, Netlist, Delays}
 
 abbrev pub refusal_of : ReplayFault → Refusal
 refusal_of TooFewCells = record { cause = cause.TooShort; place = 0 }

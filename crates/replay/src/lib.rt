@@ -2,5 +2,5 @@
 #![tactic(auto)]
 
 pub mod call;
-pub mod fault;
+pub mod faults;
 pub mod make;

@@ -1,6 +1,6 @@
 ghost use Rattle.std.specs.Prelude.{◌≡◌};
 ghost use Rattle.replay.specs.Faults.{refusal_of};
-ghost use Rattle.replay.specs.declared.fault.ReplayFault.TheVariants.{Netlist, Delays};
+ghost use Rattle.replay.specs.declared.faults.ReplayFault.TheVariants.{Netlist, Delays};
 
 use delays::faults::DelayFault;
 use fault::cause::Cause;
