@@ -1,6 +1,6 @@
 -- A script that is refused at a field leaves a board that its bytes before that field leave.
 use Rattle.std.proofs.Common.{◌≡◌, ℕ, ◌+◌, true, List, [], ◌∷◌, ◌++◌, length, take, None, Ok, Err, Option, Result, sym, refl, ap, ◌∙◌, subst, arith}
-use Rattle.std.specs.List.{AllByRecursion as All}
+use Rattle.std.specs.List.{AllByRecursion}
 use Rattle.fault.specs.declared.refusal.Refusal.{Refusal}
 use Rattle.gauge.specs.Matrix.{edge_ops}
 use Rattle.gauge.specs.Semirings.{Ops}
@@ -99,7 +99,7 @@ module _ {G : Type 0} (r : Ops G) (delays : ℕ → ℕ → G) (strip limit : �
           taken = (stays ∙ stood.0, refl);
         }
 
-  stop_at : (fs : List (Placed Edit)) (total : ℕ) (x y : View (EdgeMatrix G)) (d : ScriptFault) → All RefusedThere fs → Room x
+  stop_at : (fs : List (Placed Edit)) (total : ℕ) (x y : View (EdgeMatrix G)) (d : ScriptFault) → AllByRecursion RefusedThere fs → Room x
       → Taken r delays strip limit fs total x y (Err d) → Stop fs total x y d
   stop_at [] total x y d there room (same, is) = let z : ◌≡◌ {A = ℕ} 0 1 = cc in absurd (omega arith)
   stop_at (f ∷ fs) total x y d there room (z, b, here, rest) =

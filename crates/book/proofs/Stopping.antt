@@ -1,6 +1,6 @@
 -- A script that is refused at a field leaves what its bytes before that field leave.
 use Rattle.std.proofs.Common.{◌≡◌, ℕ, zero, suc, ◌+◌, ◌≤◌, true, false, cond, ltb, List, [], ◌∷◌, ◌++◌, length, take, is_ok, Some, None, Ok, Err, Option, Result, sym, refl, ap, ◌∙◌, arith}
-use Rattle.std.specs.List.{AllByRecursion as All}
+use Rattle.std.specs.List.{AllByRecursion}
 use Rattle.std.proofs.lemmas.List.{length-take}
 use Rattle.std.proofs.lemmas.Bool.{ltb-false, le-ltb, cond-false}
 use Rattle.fault.specs.declared.refusal.Refusal.{Refusal}
@@ -29,13 +29,13 @@ use Rattle.book.proofs.Lengths.{field_next_long}
 abbrev pub RefusedThere : Placed Edit → Type 0
 RefusedThere f = Refused f.at f.said
 
-placed_refused : (skip at : ℕ) (bytes : List ℕ) → All RefusedThere (placed edit_of skip at bytes)
+placed_refused : (skip at : ℕ) (bytes : List ℕ) → AllByRecursion RefusedThere (placed edit_of skip at bytes)
 placed_refused zero at [] = tt
 placed_refused (suc skip) at [] = tt
 placed_refused zero at (x ∷ xs) = (said_refused edit_of edit_refused at (x ∷ xs), placed_refused (2 + size_of (x ∷ xs)) (at + 1) xs)
 placed_refused (suc skip) at (x ∷ xs) = placed_refused skip (at + 1) xs
 
-pub fields_refused : (file : List ℕ) → All RefusedThere (fields edit_of file)
+pub fields_refused : (file : List ℕ) → AllByRecursion RefusedThere (fields edit_of file)
 fields_refused file = placed_refused 0 0 file
 
 -- the fault of an edit among those of scripts
@@ -119,7 +119,7 @@ module _ {G : Type 0} (r : Ops G) (delays : ℕ → ℕ → G) (l : Lent) where
           left = sym (ap (λ (a : Result ℕ ScriptFault). cond (is_ok a) (fields_next r delays l (field_next r delays l book f.at f.said) fs) book) is);
         }
 
-  stop_at : (fs : List (Placed Edit)) (book : Book (EdgeMatrix G)) (total : ℕ) (d : ScriptFault) → All RefusedThere fs
+  stop_at : (fs : List (Placed Edit)) (book : Book (EdgeMatrix G)) (total : ℕ) (d : ScriptFault) → AllByRecursion RefusedThere fs
       → room_fault true l (length book) ≡ None → fields_answer r delays l book total fs ≡ Err d → Stop book total fs d
   stop_at [] book total d there room h = let z : ◌≡◌ {A = ℕ} 0 1 = cc in absurd (omega arith)
   stop_at (f ∷ fs) book total d there room h =

@@ -1,7 +1,7 @@
 -- A table without fault names only what is there, and each part at most once.
 use Rattle.std.proofs.Common.{◌≡◌, ℕ, ◌≤◌, Bool, true, false, cond, eqb, ltb, List, [], ◌∷◌, length, is_ok, Some, None, Ok, Err, Option, Result, refl, ap, ◌∙◌, ⊎_elim, arith}
 use Rattle.std.specs.Option.{option_or}
-use Rattle.std.specs.List.{AllByRecursion as All}
+use Rattle.std.specs.List.{AllByRecursion}
 use Rattle.std.proofs.lemmas.Bool.{eqb-true, and_parts, cases_Bool, cond-true, cond-false, or_left, or_right}
 use Rattle.fields.specs.declared.entry.Clock.{Clock}
 use Rattle.fields.specs.declared.entry.Entry.{Entry}
@@ -49,7 +49,7 @@ module _ (outline : Outline) where
       record { fits = good.0; fresh = λ part is. ap (named before) (same_part_lem part (Source s) is) ∙ good.1 }
   said_good before at (Err d) h = let z : ◌≡◌ {A = ℕ} 0 1 = cc in absurd (omega arith)
 
-  all_fit : (before fs : List (Placed Entry)) → first_fault outline before fs ≡ None → All (λ f. Fits outline f.said) fs
+  all_fit : (before fs : List (Placed Entry)) → first_fault outline before fs ≡ None → AllByRecursion (λ f. Fits outline f.said) fs
   all_fit before [] h = tt
   all_fit before (f ∷ fs) h =
       let both = both_none (said_fault outline before f.at f.said) (first_fault outline (f ∷ before) fs) h in

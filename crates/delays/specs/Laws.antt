@@ -1,6 +1,6 @@
 -- What holds of every accepted table.
 use Rattle.std.specs.Prelude.{◌≡◌, ℕ, ◌≤◌, true, List, length, is_ok, Ok, Err, Result}
-use Rattle.std.specs.List.{AllByRecursion as All}
+use Rattle.std.specs.List.{AllByRecursion}
 use Rattle.fields.specs.declared.entry.Entry.{Entry}
 use Rattle.fields.specs.declared.entry.Entry.TheVariants as entry
 use Rattle.fields.specs.declared.faults.FieldFault.{FieldFault}
@@ -18,7 +18,7 @@ Fits outline (Err d) = ⊥
 
 -- every field fits, and no part is named twice
 pub record WellNamed (outline : Outline) (fs : List (Placed Entry)) : Type 0 where
-  pub fit : All (λ f. Fits outline f.said) fs
+  pub fit : AllByRecursion (λ f. Fits outline f.said) fs
   pub once : (part : Part) → length (naming fs part) ≤ 1
 
 abbrev pub AcceptedWellNamed : Type 0

@@ -1,7 +1,7 @@
 -- What holds line after line holds of an accepted text. Assumes nothing.
 use Rattle.std.proofs.Common.{◌≡◌, ℕ, ◌<◌, ◌≤◌, Bool, true, false, cond, ltb, List, [], ◌∷◌, ◌++◌, map, length, get_or, take, fold, filter, sym, refl, ap, ◌∙◌, subst, ⊎_elim, arith}
 use mathlib.Core.Bool.{false≢true}
-use Rattle.std.specs.List.{AllByRecursion as All}
+use Rattle.std.specs.List.{AllByRecursion}
 use Rattle.std.proofs.ByRecursion.{All-get_or}
 use Rattle.std.proofs.lemmas.List.{append_assoc, append-nil, get_or-map, get_or_past, get_or-take, length-map}
 use Rattle.std.proofs.lemmas.Bool.{cases_Bool, cases_lt, cond-true, cond-false, not-false}
@@ -126,7 +126,7 @@ none_here : (b : Bool) (s : Signal) (ss : List Signal) → map (λ (z : Signal).
 none_here true s ss e = absurd (cons_nil e)
 none_here false s ss e = (refl, e)
 
-pub none_undriven : (ss : List Signal) → undriven_at ss ≡ [] → All (λ (s : Signal). is_undriven s.driver ≡ false) ss
+pub none_undriven : (ss : List Signal) → undriven_at ss ≡ [] → AllByRecursion (λ (s : Signal). is_undriven s.driver ≡ false) ss
 none_undriven [] e = tt
 none_undriven (s ∷ ss) e =
     let q = none_here (is_undriven s.driver) s (filter (λ (z : Signal). is_undriven z.driver) ss) e in

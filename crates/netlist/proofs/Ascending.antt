@@ -1,6 +1,6 @@
 -- The places of each cause rise, so the first fault of a line is the least. Assumes nothing.
 use Rattle.std.proofs.Common.{◌≡◌, ℕ, zero, suc, ◌+◌, ◌-◌, ◌<◌, ◌≤◌, Bool, true, false, cond, ◌&&◌, ◌||◌, ◌⊎◌, List, [], ◌∷◌, ◌++◌, map, length, drop, Some, filter, sym, refl, ap, ◌∙◌, subst, inl, inr, ⊎_elim, arith}
-use Rattle.std.specs.List.{AllByRecursion as All}
+use Rattle.std.specs.List.{AllByRecursion}
 use Rattle.std.proofs.ByRecursion.{All-append}
 use Rattle.std.proofs.lemmas.List.{append-nil, append_assoc, drop-drop, drop_at, drop-map}
 use Rattle.std.proofs.lemmas.Bool.{cases_lt, cond_both, cond-false, le-ltb, ne_eqb}
@@ -155,7 +155,7 @@ statement_asc lo (plain w) ws x = (tt, (tt, tt))
 abbrev Above : ℕ → Refusal → Type 0
 Above n f = n < number_of_fault f
 
-above_map : (n : ℕ) (c : Cause) (ps : List ℕ) → n < number_of c → All (Above n) (map (fault c) ps)
+above_map : (n : ℕ) (c : Cause) (ps : List ℕ) → n < number_of c → AllByRecursion (Above n) (map (fault c) ps)
 above_map n c [] h = tt
 above_map n c (p ∷ ps) h = (h, above_map n c ps h)
 
@@ -167,15 +167,15 @@ or_not : (a b c : Bool) → a ≡ false → b ≡ false → (a || (b && c)) ≡ 
 or_not a b c e f = ap (λ (x : Bool). x || (b && c)) e ∙ ap (λ (x : Bool). x && c) f
 
 abbrev Behind : Refusal → List Refusal → Type 0
-Behind f gs = All (λ g. precedes g f ≡ false) gs
+Behind f gs = AllByRecursion (λ g. precedes g f ≡ false) gs
 
-behind_above : (f : Refusal) (gs : List Refusal) → All (Above (number_of_fault f)) gs → Behind f gs
+behind_above : (f : Refusal) (gs : List Refusal) → AllByRecursion (Above (number_of_fault f)) gs → Behind f gs
 behind_above f [] x = tt
 behind_above f (g ∷ gs) x =
     let q = x.0 in
     (or_not _ _ _ (le-ltb (number_of_fault g) (number_of_fault f) (omega (arith, q))) (ne_eqb (number_of_fault g) (number_of_fault f) (λ e. omega (arith, q, e))), behind_above f gs x.1)
 
-behind_same : (c : Cause) (p lo : ℕ) (ps : List ℕ) (gs : List Refusal) → p ≤ lo → Asc lo ps → All (Above (number_of c)) gs → Behind (fault c p) (map (fault c) ps ++ gs)
+behind_same : (c : Cause) (p lo : ℕ) (ps : List ℕ) (gs : List Refusal) → p ≤ lo → Asc lo ps → AllByRecursion (Above (number_of c)) gs → Behind (fault c p) (map (fault c) ps ++ gs)
 behind_same c p lo [] gs h x y = behind_above (fault c p) gs y
 behind_same c p lo (q ∷ ps) gs h x y =
     let l = x.0 in
@@ -189,7 +189,7 @@ least_first f [] a = refl
 least_first f (g ∷ gs) a = cond-false (precedes g f) _ _ a.0 ∙ least_first f gs a.1
 
 -- faults of one cause in front of faults of larger numbers
-group : (c : Cause) (lo : ℕ) (ps : List ℕ) (gs : List Refusal) → Asc lo ps → All (Above (number_of c)) gs → FirstLeast gs → FirstLeast (map (fault c) ps ++ gs)
+group : (c : Cause) (lo : ℕ) (ps : List ℕ) (gs : List Refusal) → Asc lo ps → AllByRecursion (Above (number_of c)) gs → FirstLeast gs → FirstLeast (map (fault c) ps ++ gs)
 group c lo [] gs x y z = z
 group c lo (p ∷ ps) gs x y z = ap Some (sym (least_first (fault c p) (map (fault c) ps ++ gs) (behind_same c p (suc p) ps gs (omega arith) x.1 y)))
 
@@ -217,25 +217,25 @@ module _ (p3 p4 p5 p6 p7 p8 : List ℕ) where
   abbrev F3 : List Refusal
   F3 = map (fault BadLine) p3 ++ F4
 
-  over : (n : ℕ) (c : Cause) (ps : List ℕ) (gs : List Refusal) → n < number_of c → All (Above n) gs → All (Above n) (map (fault c) ps ++ gs)
+  over : (n : ℕ) (c : Cause) (ps : List ℕ) (gs : List Refusal) → n < number_of c → AllByRecursion (Above n) gs → AllByRecursion (Above n) (map (fault c) ps ++ gs)
   over n c ps gs h x = All-append (Above n) (map (fault c) ps) gs (above_map n c ps h) x
 
-  above8 : (n : ℕ) → n < 8 → All (Above n) F8
+  above8 : (n : ℕ) → n < 8 → AllByRecursion (Above n) F8
   above8 n h = above_map n SecondDriver p8 h
 
-  above7 : (n : ℕ) → n < 7 → All (Above n) F7
+  above7 : (n : ℕ) → n < 7 → AllByRecursion (Above n) F7
   above7 n h = over n BadRow p7 F8 h (above8 n (omega arith))
 
-  above6 : (n : ℕ) → n < 6 → All (Above n) F6
+  above6 : (n : ℕ) → n < 6 → AllByRecursion (Above n) F6
   above6 n h = over n TooManySignals p6 F7 h (above7 n (omega arith))
 
-  above5 : (n : ℕ) → n < 5 → All (Above n) F5
+  above5 : (n : ℕ) → n < 5 → AllByRecursion (Above n) F5
   above5 n h = over n TooManyPins p5 F6 h (above6 n (omega arith))
 
-  above4 : (n : ℕ) → n < 4 → All (Above n) F4
+  above4 : (n : ℕ) → n < 4 → AllByRecursion (Above n) F4
   above4 n h = over n LongName p4 F5 h (above5 n (omega arith))
 
-  above3 : (n : ℕ) → n < 3 → All (Above n) F3
+  above3 : (n : ℕ) → n < 3 → AllByRecursion (Above n) F3
   above3 n h = over n BadLine p3 F4 h (above4 n (omega arith))
 
   six : (lo : ℕ) → Asc 0 p3 → Asc lo p4 → Asc 0 p5 → Asc lo p6 → Asc 0 p7 → Asc lo p8 → FirstLeast F3
@@ -246,7 +246,7 @@ module _ (p3 p4 p5 p6 p7 p8 : List ℕ) where
       (group TooManySignals lo p6 F7 a6 (above7 6 (omega arith))
       (group BadRow 0 p7 F8 a7 (above8 7 (omega arith)) (last_group SecondDriver lo p8 a8)))))
 
-rule_above : (s : State) (at : ℕ) (st : Statement) → All (Above 2) (rule_faults s at st)
+rule_above : (s : State) (at : ℕ) (st : Statement) → AllByRecursion (Above 2) (rule_faults s at st)
 rule_above s at st = above3 (only_if (outside s.stage st) at) (long_names (names_of st)) (only_if (many_pins st) at) (too_many (mention_all_lem s.signals (mentions_of st))) (only_if (wrong_row s st) at) (driven_twice s.signals [] (drives_of st)) 2 (omega arith)
 
 rule_least : (s : State) (at : ℕ) (st : Statement) (lo : ℕ) → length s.signals ≤ max_signals → Rising lo st → FirstLeast (rule_faults s at st)
@@ -255,7 +255,7 @@ rule_least s at st lo h x =
     (only_asc (outside s.stage st) at) (long_asc lo (names_of st) x.0) (only_asc (many_pins st) at)
     (many_asc s.signals lo (mentions_of st) h x.1.0) (only_asc (wrong_row s st) at) (twice_asc s.signals [] lo (drives_of st) x.1.1)
 
-words_above : (s : State) (ws : List Piece) → All (Above 2) (word_faults s ws)
+words_above : (s : State) (ws : List Piece) → AllByRecursion (Above 2) (word_faults s ws)
 words_above s [] = tt
 words_above s (w ∷ ws) = rule_above s w.place (statement_of (lexeme_of w) ws)
 

@@ -1,6 +1,6 @@
 -- Signals are numbered by first mention. Assumes nothing.
 use Rattle.std.proofs.Common.{◌≡◌, ℕ, zero, suc, ◌+◌, ◌<◌, ◌≤◌, Bool, true, false, cond, ◌⊎◌, List, [], ◌∷◌, ◌++◌, map, length, get_or, take, Some, None, fold, Option, sym, refl, ap, ◌∙◌, subst, inl, inr, ⊎_elim, arith, length-append}
-use Rattle.std.specs.List.{ContainsAt as Has, AllByRecursion as All}
+use Rattle.std.specs.List.{ContainsAt as Has, AllByRecursion}
 use Rattle.std.specs.Str.{bytes_eq}
 use Rattle.std.proofs.ByRecursion.{All-get_or, All-append, All-weaker, all_has_itself}
 use Rattle.std.proofs.lemmas.Slice.Eq.{bytes_eq-Decides}
@@ -127,10 +127,10 @@ text_names text ss e =
 
 abbrev pub Apart : List Piece → Type 0
 Apart [] = Unit {0}
-Apart (x ∷ xs) = All (λ (y : Piece). bytes_eq x.bytes y.bytes ≡ false) xs × Apart xs
+Apart (x ∷ xs) = AllByRecursion (λ (y : Piece). bytes_eq x.bytes y.bytes ≡ false) xs × Apart xs
 
-noted_all : (Q : Piece → Type 0) (xs : List Piece) (w : Piece) → All Q xs → Q w → All Q (noted xs w)
-noted_all Q xs w x q = ⊎_elim (λ e. subst (All Q) (sym e) x) (λ e. subst (All Q) (sym e) (All-append Q xs (w ∷ []) x (q, tt))) (noted_ways xs w)
+noted_all : (Q : Piece → Type 0) (xs : List Piece) (w : Piece) → AllByRecursion Q xs → Q w → AllByRecursion Q (noted xs w)
+noted_all Q xs w x q = ⊎_elim (λ e. subst (AllByRecursion Q) (sym e) x) (λ e. subst (AllByRecursion Q) (sym e) (All-append Q xs (w ∷ []) x (q, tt))) (noted_ways xs w)
 
 noted_apart : (xs : List Piece) (w : Piece) → Apart xs → Apart (noted xs w)
 noted_apart [] w a = (tt, tt)
@@ -142,7 +142,7 @@ folded_apart : (ws xs : List Piece) → Apart xs → Apart (fold noted xs ws)
 folded_apart [] xs a = a
 folded_apart (w ∷ ws) xs a = folded_apart ws (noted xs w) (noted_apart xs w a)
 
-folded_are : (Q : Piece → Type 0) (ws xs : List Piece) → All Q xs → All Q ws → All Q (fold noted xs ws)
+folded_are : (Q : Piece → Type 0) (ws xs : List Piece) → AllByRecursion Q xs → AllByRecursion Q ws → AllByRecursion Q (fold noted xs ws)
 folded_are Q [] xs x y = x
 folded_are Q (w ∷ ws) xs x y = folded_are Q ws (noted xs w) (noted_all Q xs w x y.0) y.1
 
@@ -151,15 +151,15 @@ text_apart text ss e = subst Apart (sym (text_names text ss e)) (folded_apart (w
 
 -- ---- a test at a signal's own name
 
-pub both : {A : Type 0} (P Q : A → Type 0) (xs : List A) → All P xs → All Q xs → All (λ x. P x × Q x) xs
+pub both : {A : Type 0} (P Q : A → Type 0) (xs : List A) → AllByRecursion P xs → AllByRecursion Q xs → AllByRecursion (λ x. P x × Q x) xs
 both P Q [] p q = tt
 both P Q (x ∷ xs) p q = ((p.0, q.0), both P Q xs p.1 q.1)
 
-from_names : (Q : Piece → Type 0) (ss : List Signal) → All Q (names ss) → All (λ (s : Signal). Q s.name) ss
+from_names : (Q : Piece → Type 0) (ss : List Signal) → AllByRecursion Q (names ss) → AllByRecursion (λ (s : Signal). Q s.name) ss
 from_names Q [] x = tt
 from_names Q (s ∷ ss) x = (x.0, from_names Q ss x.1)
 
-pub look_own : (f : Signal → Bool) (ss : List Signal) → Apart (names ss) → All (λ (s : Signal). look f ss s.name.bytes ≡ f s) ss
+pub look_own : (f : Signal → Bool) (ss : List Signal) → Apart (names ss) → AllByRecursion (λ (s : Signal). look f ss s.name.bytes ≡ f s) ss
 look_own f [] a = tt
 look_own f (s ∷ ss) a = (
   look_cons f s ss s.name.bytes ∙ cond-true (bytes_eq s.name.bytes s.name.bytes) (f s) _ (same_self s.name.bytes),
@@ -191,7 +191,7 @@ climb_take zero lo hi ws x = climb_le lo hi (places_of ws) x
 climb_take (suc k) lo hi [] x = x
 climb_take (suc k) lo hi (w ∷ ws) x = (x.0, climb_take k (suc w.place) hi ws x.1)
 
-climb_below : (lo hi : ℕ) (ws : List Piece) → Climb lo hi (places_of ws) → All (λ (w : Piece). w.place < hi) ws
+climb_below : (lo hi : ℕ) (ws : List Piece) → Climb lo hi (places_of ws) → AllByRecursion (λ (w : Piece). w.place < hi) ws
 climb_below lo hi [] x = tt
 climb_below lo hi (w ∷ ws) x = (climb_le (suc w.place) hi (places_of ws) x.1, climb_below (suc w.place) hi ws x.1)
 
@@ -319,7 +319,7 @@ found_more xs v w f =
         let same = get_or_append_left xs (v ∷ []) no_name g.0 h in
         (g.0, (omega (arith, h, length-append xs (v ∷ [])), (ap (λ (p : Piece). p.bytes) same ∙ g.1.1.0, subst (λ (p : Piece). p.place ≤ w.place) (sym same) g.1.1.1)))
 
-found_here : (xs : List Piece) (w : Piece) → All (λ (x : Piece). x.place < suc w.place) xs → Found (noted xs w) w
+found_here : (xs : List Piece) (w : Piece) → AllByRecursion (λ (x : Piece). x.place < suc w.place) xs → Found (noted xs w) w
 found_here [] w a = (0, (omega arith, (refl, omega arith)))
 found_here (x ∷ xs) w a =
     let l = a.0 in
@@ -333,7 +333,7 @@ found_along : (ws xs : List Piece) (w : Piece) → Found xs w → Found (fold no
 found_along [] xs w f = f
 found_along (v ∷ ws) xs w f = found_along ws (noted xs v) w (found_more xs v w f)
 
-found_all : (lo mid hi : ℕ) (ws xs : List Piece) → Climb lo mid (places_of xs) → Climb mid hi (places_of ws) → All (Found (fold noted xs ws)) ws
+found_all : (lo mid hi : ℕ) (ws xs : List Piece) → Climb lo mid (places_of xs) → Climb mid hi (places_of ws) → AllByRecursion (Found (fold noted xs ws)) ws
 found_all lo mid hi [] xs x y = tt
 found_all lo mid hi (w ∷ ws) xs x y =
     let q = y.0 in (
@@ -385,15 +385,15 @@ module _ (text : List ℕ) (ss : List Signal) (e : Accepted text ss) where
         ap (λ (w : Piece). bytes_eq w.bytes (name_of ss k).bytes) (sym a) ∙ (ap (λ (w : Piece). bytes_eq (get_or (names ss) j no_name).bytes w.bytes) (sym b) ∙ q),
       )
 
-  pub names_mentioned : All (λ (s : Signal). Has (words_in mentions_of text) s.name) ss
+  pub names_mentioned : AllByRecursion (λ (s : Signal). Has (words_in mentions_of text) s.name) ss
   names_mentioned =
       from_names (Has (words_in mentions_of text)) ss
-      (subst (All (Has (words_in mentions_of text))) (sym (text_names text ss e)) (folded_are (Has (words_in mentions_of text)) (words_in mentions_of text) [] tt (all_has_itself (words_in mentions_of text))))
+      (subst (AllByRecursion (Has (words_in mentions_of text))) (sym (text_names text ss e)) (folded_are (Has (words_in mentions_of text)) (words_in mentions_of text) [] tt (all_has_itself (words_in mentions_of text))))
 
-  pub mentions_named : All (λ (w : Piece). (k : ℕ) × ((k < length ss) × (((name_of ss k).bytes ≡ w.bytes) × ((name_of ss k).place ≤ w.place)))) (words_in mentions_of text)
+  pub mentions_named : AllByRecursion (λ (w : Piece). (k : ℕ) × ((k < length ss) × (((name_of ss k).bytes ≡ w.bytes) × ((name_of ss k).place ≤ w.place)))) (words_in mentions_of text)
   mentions_named =
       All-weaker (Found (names ss)) (λ (w : Piece). (k : ℕ) × ((k < length ss) × (((name_of ss k).bytes ≡ w.bytes) × ((name_of ss k).place ≤ w.place)))) named (words_in mentions_of text)
-      (subst (λ (xs : List Piece). All (Found xs) (words_in mentions_of text)) (sym (text_names text ss e)) (found_all 0 0 mentioned.0 (words_in mentions_of text) [] (omega arith) mentioned.1))
+      (subst (λ (xs : List Piece). AllByRecursion (Found xs) (words_in mentions_of text)) (sym (text_names text ss e)) (found_all 0 0 mentioned.0 (words_in mentions_of text) [] (omega arith) mentioned.1))
     where
       named : (w : Piece) → Found (names ss) w → (k : ℕ) × ((k < length ss) × (((name_of ss k).bytes ≡ w.bytes) × ((name_of ss k).place ≤ w.place)))
       named w f =

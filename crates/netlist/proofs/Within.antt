@@ -1,6 +1,6 @@
 -- What drives a signal names signals that are there. Assumes nothing.
 use Rattle.std.proofs.Common.{◌≡◌, ℕ, suc, ◌+◌, ◌<◌, ◌≤◌, true, false, cond, ◌⊎◌, List, [], ◌∷◌, ◌++◌, length, get_or, Some, None, Option, sym, refl, ap, ◌∙◌, subst, inl, inr, ⊎_elim, arith, length-append, length-set}
-use Rattle.std.specs.List.{AllByRecursion as All}
+use Rattle.std.specs.List.{AllByRecursion}
 use Rattle.std.specs.Str.{bytes_eq}
 use Rattle.std.proofs.ByRecursion.{All-get_or, All-append, All-set, All-weaker, All-map}
 use Rattle.std.proofs.lemmas.Slice.Eq.{bytes_eq-Decides}
@@ -59,7 +59,7 @@ known_all [] ss n h = h
 known_all (w ∷ ws) ss n h = known_all ws (mention ss w) n (known_more ss w n h)
 
 abbrev pub Mentioned : List Signal → List Piece → Type 0
-Mentioned ss ws = All (λ (w : Piece). Known ss w.bytes) ws
+Mentioned ss ws = AllByRecursion (λ (w : Piece). Known ss w.bytes) ws
 
 pub mentioned_all : (ws : List Piece) (ss : List Signal) → Mentioned (mention_all_lem ss ws) ws
 mentioned_all [] ss = tt
@@ -75,13 +75,13 @@ abbrev pub DriverWithin : ℕ → Driver → Type 0
 DriverWithin n undriven = Unit {0}
 DriverWithin n input = Unit {0}
 DriverWithin n (latched d ws) = d < n
-DriverWithin n (gates ps c) = All (λ (p : ℕ). p < n) ps
+DriverWithin n (gates ps c) = AllByRecursion (λ (p : ℕ). p < n) ps
 
 abbrev SignalWithin : ℕ → Signal → Type 0
 SignalWithin n s = DriverWithin n s.driver
 
 abbrev pub Within : List Signal → Type 0
-Within ss = All (SignalWithin (length ss)) ss
+Within ss = AllByRecursion (SignalWithin (length ss)) ss
 
 driver_more : (m n : ℕ) → m ≤ n → (d : Driver) → DriverWithin m d → DriverWithin n d
 driver_more m n h undriven x = tt
@@ -107,7 +107,7 @@ Keeps n f = (s : Signal) → SignalWithin n s → SignalWithin n (f s)
 changed_within : (f : Signal → Signal) (ss : List Signal) (k : ℕ) → Keeps (length ss) f → Within ss → Within (changed f ss k)
 changed_within f ss k h x =
     ⊎_elim
-    (λ l. subst (λ (n : ℕ). All (SignalWithin n) (changed f ss k)) (sym (length-set ss k (f (get_or ss k no_signal)))) (All-set (SignalWithin (length ss)) ss k (f (get_or ss k no_signal)) (h (get_or ss k no_signal) (All-get_or (SignalWithin (length ss)) ss k no_signal l x)) x))
+    (λ l. subst (λ (n : ℕ). AllByRecursion (SignalWithin n) (changed f ss k)) (sym (length-set ss k (f (get_or ss k no_signal)))) (All-set (SignalWithin (length ss)) ss k (f (get_or ss k no_signal)) (h (get_or ss k no_signal) (All-get_or (SignalWithin (length ss)) ss k no_signal l x)) x))
     (λ l. subst Within (sym (set_past ss k (f (get_or ss k no_signal)) l)) x)
     (cases_lt k (length ss))
 

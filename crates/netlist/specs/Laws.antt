@@ -1,6 +1,6 @@
 -- What every accepted netlist has, by the lines and words of its text.
 use Rattle.std.specs.Prelude.{◌≡◌, ℕ, ◌<◌, ◌≤◌, Bool, false, List, [], ◌∷◌, length, count_by, slice_index_or}
-use Rattle.std.specs.List.{flat_map, ContainsAt as Has, AllByRecursion as All}
+use Rattle.std.specs.List.{flat_map, ContainsAt as Has, AllByRecursion}
 use Rattle.std.specs.Str.{bytes_eq}
 use Rattle.text.specs.Text.{Piece, words, lines}
 use Rattle.text.specs.Words.{any_of, lexeme_of}
@@ -47,13 +47,13 @@ Accepted text ss = read text ≡ netlist ss
 
 -- each signal is driven by exactly one word of the text
 abbrev pub OneDriver : Type 0
-OneDriver = (text : List ℕ) (ss : List Signal) → Accepted text ss → All (λ (s : Signal). count_by (named s.name.bytes) (words_in drives_of text) ≡ 1) ss
+OneDriver = (text : List ℕ) (ss : List Signal) → Accepted text ss → AllByRecursion (λ (s : Signal). count_by (named s.name.bytes) (words_in drives_of text) ≡ 1) ss
 
 -- a signal is an output exactly if a line of outputs names it, and captured exactly if it is a latch's data
 abbrev pub Endpoints : Type 0
 Endpoints =
     (text : List ℕ) (ss : List Signal) → Accepted text ss
-    → All (λ (s : Signal). (s.output ≡ any_of (named s.name.bytes) (words_in outputs_of text)) × (s.captured ≡ any_of (named s.name.bytes) (words_in data_of text))) ss
+    → AllByRecursion (λ (s : Signal). (s.output ≡ any_of (named s.name.bytes) (words_in outputs_of text)) × (s.captured ≡ any_of (named s.name.bytes) (words_in data_of text))) ss
 
 abbrev pub name_of : List Signal → ℕ → Piece
 name_of ss k = (slice_index_or ss k no_signal).name
@@ -68,5 +68,5 @@ NamesClimb =
 abbrev pub FirstMentions : Type 0
 FirstMentions =
     (text : List ℕ) (ss : List Signal) → Accepted text ss
-    → All (λ (s : Signal). Has (words_in mentions_of text) s.name) ss
-    × All (λ (w : Piece). (k : ℕ) × ((k < length ss) × (((name_of ss k).bytes ≡ w.bytes) × ((name_of ss k).place ≤ w.place)))) (words_in mentions_of text)
+    → AllByRecursion (λ (s : Signal). Has (words_in mentions_of text) s.name) ss
+    × AllByRecursion (λ (w : Piece). (k : ℕ) × ((k < length ss) × (((name_of ss k).bytes ≡ w.bytes) × ((name_of ss k).place ≤ w.place)))) (words_in mentions_of text)

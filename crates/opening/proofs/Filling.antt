@@ -1,6 +1,6 @@
 -- Fields that are written into a table one after another.
 use Rattle.std.proofs.Common.{◌≡◌, ℕ, ◌+◌, ◌*◌, ◌/◌, ◌%◌, ◌<◌, ◌≤◌, true, false, eqb, ltb, ◌≢◌, List, [], ◌∷◌, length, get_or, drop, set, Ok, Err, Result, sym, refl, ap, ◌∙◌, subst, ap₂, ⊎_elim, arith}
-use Rattle.std.specs.List.{AllByRecursion as All}
+use Rattle.std.specs.List.{AllByRecursion}
 use Rattle.std.proofs.lemmas.List.{length-set, drop-set-lt, get_or-set_same, get_or-set_other, nil_from_length}
 use Rattle.std.proofs.lemmas.Bool.{ltb-true, eqb-true, and_parts, cases_Bool, cond-true, cond-false}
 use Rattle.std.proofs.lemmas.Bool.Decides.{nat_tests}
@@ -39,7 +39,7 @@ module _ (net : Network) {V : Type 0} (writes : Result Entry FieldFault → List
         → names_in said part ≡ false → get_or (writes said cells) cell d ≡ get_or cells cell d
 
   abbrev AllFit : List (Placed Entry) → Type 0
-  AllFit fs = All (λ f. Fits (outline_of net) f.said) fs
+  AllFit fs = AllByRecursion (λ f. Fits (outline_of net) f.said) fs
 
   module _ {n : ℕ} (within : Within n) where
     after_long : (cells : List V) (fs : List (Placed Entry)) → length (after_all writes cells fs) ≡ length cells
@@ -224,9 +224,9 @@ pub written_all : {V : Type 0} (writes : Result Entry FieldFault → List V → 
 written_all writes file at cells goal past was = sym (ap (after_all writes cells) (fields_none entry_of file at past)) ∙ was
 
 -- where the fields fit, one is always read
-pub never_stops : (outline : Outline) (file : List ℕ) (at : ℕ) → All (λ f. Fits outline f.said) (fields_from entry_of at file) → at < length file
+pub never_stops : (outline : Outline) (file : List ℕ) (at : ℕ) → AllByRecursion (λ f. Fits outline f.said) (fields_from entry_of at file) → at < length file
     → (r : Result (Entry × ℕ) FieldFault) → Reads entry_of written_entry file at r → ((x : Entry × ℕ) → r ≡ Ok x → ⊥) → ⊥
 never_stops outline file at fit inside (Ok x) reads no-entry = no-entry x refl
 never_stops outline file at fit inside (Err d) reads no-entry =
-    let P : List (Placed Entry) → Type 0 = λ fs. All (λ f. Fits outline f.said) fs in
+    let P : List (Placed Entry) → Type 0 = λ fs. AllByRecursion (λ f. Fits outline f.said) fs in
     (subst P (reads.stops d refl inside).1 fit).0

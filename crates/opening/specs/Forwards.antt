@@ -1,7 +1,7 @@
 -- A network read forwards: the taps into a signal are its pins, in order.
 use Rattle.std.proofs.Common.{sym, subst, arith}
 use Rattle.std.specs.Prelude.{ℕ, ◌+◌, ◌*◌, ◌<◌, ◌≤◌, map}
-use Rattle.std.specs.List.{range_with_len, AllByRecursion as All}
+use Rattle.std.specs.List.{range_with_len, AllByRecursion}
 use Rattle.std.proofs.lemmas.List.FromFn.{length-map-range_with_len, get_or-map-range_with_len}
 use Rattle.std.proofs.ByRecursion.{All-from_get_or}
 use Rattle.network.specs.Net.{size, fanin, from, turn, signal_at_lem}
@@ -23,7 +23,7 @@ forwards net = record {
 }
 
 -- what holds of f k for each k below n holds of all the list
-pub all_counted : {X : Type 0} (P : X → Type 0) (f : ℕ → X) (n : ℕ) → ((k : ℕ) → k < n → P (f k)) → All P (map f (range_with_len 0 n))
+pub all_counted : {X : Type 0} (P : X → Type 0) (f : ℕ → X) (n : ℕ) → ((k : ℕ) → k < n → P (f k)) → AllByRecursion P (map f (range_with_len 0 n))
 all_counted P f n each =
     All-from_get_or P (map f (range_with_len 0 n)) (f 0)
     (λ i h.

@@ -1,6 +1,6 @@
 -- Settled cells: they are unique, and after an edit of path sums they are path sums.
 use Rattle.std.proofs.Common.{◌≡◌, ℕ, zero, suc, ◌+◌, ◌<◌, Bool, true, false, cond, not, ◌&&◌, ◌||◌, eqb, List, [], ◌∷◌, sym, refl, ap, ◌∙◌, ap₂, arith}
-use Rattle.std.specs.List.{AllByRecursion as All}
+use Rattle.std.specs.List.{AllByRecursion}
 use Rattle.std.proofs.ByRecursion.{All-weaker}
 use Rattle.std.proofs.lemmas.Bool.{eqb-true, not-false, or_parts, cond_both}
 use Rattle.gauge.specs.Semirings.{Ops, Laws}
@@ -10,11 +10,11 @@ use Rattle.paths.specs.Edits.{any, count_below, only, fed, edit_count}
 use Rattle.paths.specs.Theorems.{SumsAreSettled, SettledUnique, SettledAreSums, EditsRight, EditsCommute}
 use Rattle.paths.proofs.Sums.{by_rank, worked_same, worked_unedited, unfolds}
 
-any_false : {A : Type 0} (test : A → Bool) (xs : List A) → any test xs ≡ false → All (λ x. test x ≡ false) xs
+any_false : {A : Type 0} (test : A → Bool) (xs : List A) → any test xs ≡ false → AllByRecursion (λ x. test x ≡ false) xs
 any_false test [] e = tt
 any_false test (x ∷ xs) e = let h = or_parts (test x) (any test xs) e in (h.0, any_false test xs h.1)
 
-pub any_same : {A : Type 0} (t u : A → Bool) (xs : List A) → All (λ x. t x ≡ u x) xs → any t xs ≡ any u xs
+pub any_same : {A : Type 0} (t u : A → Bool) (xs : List A) → AllByRecursion (λ x. t x ≡ u x) xs → any t xs ≡ any u xs
 any_same t u [] h = refl
 any_same t u (x ∷ xs) h = ap₂ ◌||◌ h.0 (any_same t u xs h.1)
 
@@ -23,7 +23,7 @@ count_same zero t u h = refl
 count_same (suc n) t u h = ap₂ ◌+◌ (ap (λ b. cond b 1 0) (h n (omega arith))) (count_same n t u (λ s l. h s (omega arith)))
 
 fed_same : {V : Type 0} (r : Ops V) (web : Web V) (b b' a a' : ℕ → V) (s : ℕ)
-    → All (λ x. (b x.from ≡ b' x.from) × (a x.from ≡ a' x.from)) (web.into s)
+    → AllByRecursion (λ x. (b x.from ≡ b' x.from) × (a x.from ≡ a' x.from)) (web.into s)
     → fed r web b a s ≡ fed r web b' a' s
 unfolding fed
 fed_same r web b b' a a' s h =
@@ -31,7 +31,7 @@ fed_same r web b b' a a' s h =
 
 -- a signal that no changed cell feeds is fed the values of before
 not_fed : {V : Type 0} (r : Ops V) → Laws r → (web : Web V) (before after : ℕ → V) (s : ℕ)
-    → fed r web before after s ≡ false → All (λ x. before x.from ≡ after x.from) (web.into s)
+    → fed r web before after s ≡ false → AllByRecursion (λ x. before x.from ≡ after x.from) (web.into s)
 unfolding fed
 not_fed r laws web before after s e =
     All-weaker _ _ (λ x h. (laws.tells (before x.from) (after x.from)).0 (not-false _ h)) (web.into s) (any_false _ (web.into s) e)

@@ -1,7 +1,7 @@
 -- Path sums agree with the wires, and no other values do.
 use Rattle.std.proofs.Common.{◌≡◌, ℕ, zero, suc, ◌<◌, Bool, false, List, [], ◌∷◌, ◌++◌, map, sym, refl, ap, ◌∙◌, subst, ap₂, arith}
 use mathlib.Core.List.{map-append}
-use Rattle.std.specs.List.{flat_map, AllByRecursion as All}
+use Rattle.std.specs.List.{flat_map, AllByRecursion}
 use Rattle.std.proofs.ByRecursion.{All-weaker}
 use Rattle.gauge.specs.Semirings.{Ops, Laws}
 use Rattle.paths.specs.Web.{Web, Incoming, Ranked, Rankable, Wire, Path, along, weight, SameExcept, Agree}
@@ -39,7 +39,7 @@ module _ {V : Type 0} {r : Ops V} (laws : Laws r) where
         ∙ total_append (map (weight r web) (map (extended w) (ps x.from))) (map (weight r web) rest)
         ∙ ap₂ r.plus (extended_total w (ps x.from)) (through_total s (suc i) ps xs)
 
-through_same : {V : Type 0} (f g : ℕ → List (Path V)) (s i : ℕ) (xs : List (Incoming V)) → All (λ x. f x.from ≡ g x.from) xs
+through_same : {V : Type 0} (f g : ℕ → List (Path V)) (s i : ℕ) (xs : List (Incoming V)) → AllByRecursion (λ x. f x.from ≡ g x.from) xs
     → flat_map (λ w. map (extended w) (f w.from)) (numbered s i xs) ≡ flat_map (λ w. map (extended w) (g w.from)) (numbered s i xs)
 through_same f g s i [] h = refl
 through_same f g s i (x ∷ xs) h = ap₂ ◌++◌ (ap (map (extended _)) h.0) (through_same f g s (suc i) xs h.1)
@@ -56,19 +56,19 @@ paths_end web ranking (suc m) (suc n) s in' h h' =
 
 -- what holds of a signal wherever it holds of all that feed it holds of every signal
 pub by_rank : {V : Type 0} (web : Web V) → Rankable web → (P : ℕ → Type 0)
-    → ((s : ℕ) → s < web.size → All (λ x. P x.from) (web.into s) → P s) → (s : ℕ) → s < web.size → P s
+    → ((s : ℕ) → s < web.size → AllByRecursion (λ x. P x.from) (web.into s) → P s) → (s : ℕ) → s < web.size → P s
 by_rank web (rank, ranked) P step s in' = go (suc (rank s)) s in' (omega arith)
   where
     go : (n s : ℕ) → s < web.size → rank s < n → P s
     go zero s in' h = absurd (omega arith)
     go (suc n) s in' h = step s in' (All-weaker _ _ (λ x c. go n x.from c.0 (omega arith)) (web.into s) (ranked.climbs s in'))
 
-pub worked_same : {V : Type 0} (r : Ops V) (web : Web V) (v w : ℕ → V) (s : ℕ) → All (λ x. v x.from ≡ w x.from) (web.into s)
+pub worked_same : {V : Type 0} (r : Ops V) (web : Web V) (v w : ℕ → V) (s : ℕ) → AllByRecursion (λ x. v x.from ≡ w x.from) (web.into s)
     → worked r web v s ≡ worked r web w s
 unfolding worked
 worked_same {V} r web v w s h = ap (r.plus (web.start s)) (go (web.into s) h)
   where
-    go : (xs : List (Incoming V)) → All (λ x. v x.from ≡ w x.from) xs
+    go : (xs : List (Incoming V)) → AllByRecursion (λ x. v x.from ≡ w x.from) xs
         → total r (map (brought r v) xs) ≡ total r (map (brought r w) xs)
     go [] h = refl
     go (x ∷ xs) h = ap₂ r.plus (ap (λ y. brought r (λ u. y) x) h.0) (go xs h.1)
@@ -83,7 +83,7 @@ worked_unedited r edited old new same v s in' un =
 pub agree_ranked : {V : Type 0} (old new : Web V) (rank : ℕ → ℕ) → Ranked old rank → Agree old new → Ranked new rank
 agree_ranked old new rank ranked agree = record {
   below = λ s in'. let h = ranked.below s (omega (arith, agree.size)) in omega (arith, agree.size);
-  climbs = λ s in'. subst (All (λ x. (x.from < new.size) × (rank x.from < rank s))) (sym (agree.into s in' refl))
+  climbs = λ s in'. subst (AllByRecursion (λ x. (x.from < new.size) × (rank x.from < rank s))) (sym (agree.into s in' refl))
       (All-weaker _ _ (λ x c. (omega (arith, agree.size, c.0), c.1)) (old.into s) (ranked.climbs s (omega (arith, agree.size))));
 }
 

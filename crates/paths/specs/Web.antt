@@ -2,7 +2,7 @@
 use Rattle.std.specs.Prelude.{◌≡◌, ℕ, ◌<◌, Bool, false, cond, List, [], ◌∷◌, ◌==◌}
 use Rattle.std.proofs.Math.Option.{some}
 use Rattle.std.proofs.Math.ListN.{get_elem?}
-use Rattle.std.specs.List.{AllByRecursion as All}
+use Rattle.std.specs.List.{AllByRecursion}
 use Rattle.gauge.specs.Semirings.{Ops}
 
 -- a wire as the signal at its end has it: the signal that it comes from, and its weight
@@ -19,7 +19,7 @@ pub record Web (V : Type 0) : Type 0 where
 -- each signal has a rank below size, and every wire comes from a signal of lower rank
 pub record Ranked {V : Type 0} (web : Web V) (rank : ℕ → ℕ) : Type 0 where
   pub below : (s : ℕ) → s < web.size → rank s < web.size
-  pub climbs : (s : ℕ) → s < web.size → All (λ x. (x.from < web.size) × (rank x.from < rank s)) (web.into s)
+  pub climbs : (s : ℕ) → s < web.size → AllByRecursion (λ x. (x.from < web.size) × (rank x.from < rank s)) (web.into s)
 
 -- the web has such ranks, so no path goes round
 abbrev pub Rankable : {V : Type 0} → Web V → Type 0

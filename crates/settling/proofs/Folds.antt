@@ -1,6 +1,6 @@
 -- Laws of `any`, `gathered` and `count_below`.
 use Rattle.std.proofs.Common.{◌≡◌, ℕ, zero, suc, ◌+◌, ◌<◌, ◌≤◌, Bool, true, false, cond, ◌&&◌, ◌||◌, ◌≢◌, List, [], ◌∷◌, map, length, get_or, drop, sym, refl, ap, ◌∙◌, ap₂, ⊎_elim, arith}
-use Rattle.std.specs.List.{AllByRecursion as All}
+use Rattle.std.specs.List.{AllByRecursion}
 use Rattle.std.proofs.lemmas.List.{at_drop_more}
 use Rattle.std.proofs.lemmas.Bool.{cases_eq, cond-true, cond-false, or_from}
 use Rattle.gauge.specs.Semirings.{Ops}
@@ -10,7 +10,7 @@ use Rattle.settling.specs.declared.tap.Tap.{Tap}
 use Rattle.settling.specs.Tables.{wire_of}
 
 module _ {A : Type 0} where
-  pub any_none : (test : A → Bool) (xs : List A) → All (λ x. test x ≡ false) xs → any test xs ≡ false
+  pub any_none : (test : A → Bool) (xs : List A) → AllByRecursion (λ x. test x ≡ false) xs → any test xs ≡ false
   any_none test [] h = refl
   any_none test (x ∷ xs) h = or_from (test x) (any test xs) h.0 (any_none test xs h.1)
 

@@ -1,6 +1,6 @@
 -- Signals, the taps into them, and turns by which every tap climbs.
 use Rattle.std.specs.Prelude.{◌≡◌, ℕ, ◌<◌, ◌≤◌, Bool, true, false, ◌&&◌, ◌||◌, List, nat_eq, nat_lt, slice_index_or}
-use Rattle.std.specs.List.{AllByRecursion as All}
+use Rattle.std.specs.List.{AllByRecursion}
 use Rattle.paths.specs.Edits.{any}
 use Rattle.settling.specs.declared.tap.Tap.{Tap}
 
@@ -17,7 +17,7 @@ pub record Sound (shape : Shape) : Type 0 where
   pub turn_back : (s : ℕ) → s < shape.size → shape.signal_at_lem (shape.turn s) ≡ s
   pub signal_below : (t : ℕ) → t < shape.size → shape.signal_at_lem t < shape.size
   pub signal_back : (t : ℕ) → t < shape.size → shape.turn (shape.signal_at_lem t) ≡ t
-  pub climbs : (s : ℕ) → s < shape.size → All (λ x. (x.from < shape.size) × (shape.turn x.from < shape.turn s)) (shape.taps s)
+  pub climbs : (s : ℕ) → s < shape.size → AllByRecursion (λ x. (x.from < shape.size) × (shape.turn x.from < shape.turn s)) (shape.taps s)
 
 -- the tap in place k of the list of s
 abbrev pub tap_at : Shape → ℕ → ℕ → Tap

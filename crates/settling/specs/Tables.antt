@@ -1,6 +1,6 @@
 -- A shape with tables of starts, weights and values.
 use Rattle.std.specs.Prelude.{ℕ, ◌<◌, ◌≤◌, List, map, length, slice_index_or}
-use Rattle.std.specs.List.{AllByRecursion as All}
+use Rattle.std.specs.List.{AllByRecursion}
 use Rattle.gauge.specs.Semirings.{Ops}
 use Rattle.paths.specs.Web.{Web, Incoming, Rankable}
 use Rattle.settling.specs.declared.tap.Tap.{Tap}
@@ -25,7 +25,7 @@ web_on r shape starts weights = record {
 -- the tables are long enough for the shape
 pub record TablesFit {V : Type 0} (shape : Shape) (starts weights values : List V) : Type 0 where
   pub starts_long : shape.size ≤ length starts
-  pub weights_long : (s : ℕ) → s < shape.size → All (λ x. x.cell < length weights) (shape.taps s)
+  pub weights_long : (s : ℕ) → s < shape.size → AllByRecursion (λ x. x.cell < length weights) (shape.taps s)
   pub values_long : shape.size ≤ length values
 
 -- the web of a sound shape has ranks, whatever the tables hold

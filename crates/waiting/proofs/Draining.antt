@@ -1,13 +1,13 @@
 -- Turns taken one by one. Assumes nothing.
 use Rattle.std.proofs.Common.{◌≡◌, ℕ, suc, ◌+◌, ◌<◌, ◌≤◌, Bool, true, false, not, ◌&&◌, ◌||◌, eqb, List, [], ◌∷◌, ◌++◌, length, take, drop, set, sym, refl, ap, ◌∙◌, ⊎_elim, arith}
-use Rattle.std.specs.List.{AllByRecursion as All}
+use Rattle.std.specs.List.{AllByRecursion}
 use Rattle.std.proofs.lemmas.List.{take_more_set, drop-set-lt, drop-drop, length-take-le}
 use Rattle.std.proofs.ByRecursion.{All-push, All-weaker}
 use Rattle.std.proofs.lemmas.Bool.{and_parts, not-true, cases_Bool, eqb-true, eqb-false}
 use Rattle.std.proofs.lemmas.Bool.Decides.{nat_tests}
 use Rattle.waiting.specs.Turns.{Empty, Least, stands, Rising, Drained}
 
-rising_push : (xs : List ℕ) (t : ℕ) → Rising xs → All (λ x. x < t) xs → Rising (xs ++ t ∷ [])
+rising_push : (xs : List ℕ) (t : ℕ) → Rising xs → AllByRecursion (λ x. x < t) xs → Rising (xs ++ t ∷ [])
 rising_push [] t r l = (tt, tt)
 rising_push (x ∷ xs) t r l = (All-push (λ y. x < y) xs t r.0 l.0, rising_push xs t r.1 l.1)
 
@@ -16,7 +16,7 @@ stands_push [] t u = grind (arith, nat_tests)
 stands_push (x ∷ xs) t u = grind (arith, nat_tests, stands_push xs t u)
 
 -- the numbers of a list that rises are too few to fill what is below a greater number
-few : (xs : List ℕ) (low t : ℕ) → Rising xs → All (λ x. low ≤ x) xs → All (λ x. x < t) xs → low ≤ t → low + length xs ≤ t
+few : (xs : List ℕ) (low t : ℕ) → Rising xs → AllByRecursion (λ x. low ≤ x) xs → AllByRecursion (λ x. x < t) xs → low ≤ t → low + length xs ≤ t
 few [] low t r a b l = omega arith
 few (x ∷ xs) low t r a b l = omega (arith, few xs (suc x) t r.1 r.0 b.1 b.0, a.0)
 

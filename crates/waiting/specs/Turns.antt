@@ -1,6 +1,6 @@
 -- Sets of turns, as tests on numbers. Assumes nothing.
 use Rattle.std.specs.Prelude.{◌≡◌, ℕ, ◌<◌, ◌≤◌, Bool, true, false, ◌||◌, List, [], ◌∷◌, Some, None, Option, ◌==◌}
-use Rattle.std.specs.List.{AllByRecursion as All}
+use Rattle.std.specs.List.{AllByRecursion}
 
 -- no turn waits
 abbrev pub Empty : (ℕ → Bool) → Type 0
@@ -23,7 +23,7 @@ stands (x ∷ xs) t = t == x || stands xs t
 -- each number is less than all after it
 abbrev pub Rising : List ℕ → Type 0
 Rising [] = Unit {0}
-Rising (x ∷ xs) = All (λ y. x < y) xs × Rising xs
+Rising (x ∷ xs) = AllByRecursion (λ y. x < y) xs × Rising xs
 
 -- of the turns that waited, some are given and the others wait still
 pub record Drained (waited : ℕ → Bool) (given : List ℕ) (waits : ℕ → Bool) : Type 0 where
@@ -32,4 +32,4 @@ pub record Drained (waited : ℕ → Bool) (given : List ℕ) (waits : ℕ → B
   -- a turn waited exactly if it is given or waits still
   pub either : (t : ℕ) → waited t ≡ (stands given t || waits t)
   -- those given are less than each that waits still
-  pub lesser : (t : ℕ) → waits t ≡ true → All (λ x. x < t) given
+  pub lesser : (t : ℕ) → waits t ≡ true → AllByRecursion (λ x. x < t) given

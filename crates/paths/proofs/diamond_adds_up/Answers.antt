@@ -1,13 +1,13 @@
--- All but the ranking is by computation.
+-- AllByRecursion but the ranking is by computation.
 use Rattle.std.proofs.Common.{ℕ, zero, suc, ◌<◌, refl, lit<}
-use Rattle.std.specs.List.{AllByRecursion as All}
+use Rattle.std.specs.List.{AllByRecursion}
 use Rattle.paths.specs.Listing.{paths}
 use Rattle.paths.specs.Sums.{path_sum}
 use Rattle.paths.specs.Edits.{fed, edit_count}
 use Rattle.paths.specs.Example.{diamond}
 use Rattle.paths.proofs.diamond_adds_up.Goals as goal
 
-climbs : (s : ℕ) → All (λ x. (x.from < 5) × (x.from < s)) (diamond.into s)
+climbs : (s : ℕ) → AllByRecursion (λ x. (x.from < 5) × (x.from < s)) (diamond.into s)
 climbs zero = tt
 climbs (suc zero) = ((lit< tt, lit< tt), tt)
 climbs (suc (suc zero)) = ((lit< tt, lit< tt), ((lit< tt, lit< tt), tt))

@@ -1,5 +1,5 @@
 use Rattle.std.proofs.Common.{List, refl, subst}
-use Rattle.std.specs.List.{AllByRecursion as All}
+use Rattle.std.specs.List.{AllByRecursion}
 use Rattle.fields.specs.Lists.{Placed}
 use Rattle.fields.specs.declared.entry.Entry.{Entry}
 use Rattle.delays.specs.Laws.{Fits}
@@ -24,7 +24,7 @@ loop-at-preserved g c =
     let entry = c.in-Ok.entry in
     let next = c.in-Ok.next in
     let goes = c.in-Ok.ensures.goes entry next refl in
-    let P : List (Placed Entry) → Type 0 = λ fs. All (λ f. Fits (outline_of net) f.said) fs in (
+    let P : List (Placed Entry) → Type 0 = λ fs. AllByRecursion (λ f. Fits (outline_of net) f.said) fs in (
       (subst P goes c.loop-at.invariant.0).1,
       written_more (starts_with g.G.Semiring.ops g.G.Gauge.delays net) file at next entry c.loop-at.starts c.fill_entry.new.starts _ goes c.fill_entry.ensures.starts c.loop-at.invariant.1,
       written_more (weights_with g.G.Semiring.ops g.G.Gauge.delays net) file at next entry c.loop-at.weights c.fill_entry.new.weights _ goes c.fill_entry.ensures.weights c.loop-at.invariant.2,

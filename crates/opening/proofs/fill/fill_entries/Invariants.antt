@@ -1,5 +1,5 @@
 use Rattle.std.proofs.Common.{◌≡◌, ◌-◌, length}
-use Rattle.std.specs.List.{AllByRecursion as All}
+use Rattle.std.specs.List.{AllByRecursion}
 use Rattle.fields.specs.Lists.{fields_from, fields}
 use Rattle.fields.specs.Says.{entry_of}
 use Rattle.delays.specs.Laws.{Fits}
@@ -11,7 +11,7 @@ abbrev pub invariant-loop-at : goal.invariant-loop-at
 invariant-loop-at g l =
     let starting = starts_with g.G.Semiring.ops g.G.Gauge.delays l.network in
     let weighting = weights_with g.G.Semiring.ops g.G.Gauge.delays l.network in
-    All (λ f. Fits (outline_of l.network) f.said) (fields_from entry_of l.at l.file)
+    AllByRecursion (λ f. Fits (outline_of l.network) f.said) (fields_from entry_of l.at l.file)
     × (after_all starting l.starts (fields_from entry_of l.at l.file) ≡ after_all starting l.initial.starts (fields entry_of l.file))
     × (after_all weighting l.weights (fields_from entry_of l.at l.file) ≡ after_all weighting l.initial.weights (fields entry_of l.file))
 
