@@ -2,8 +2,7 @@
 .PHONY: run test
 
 run:
-	rt check fitout
-	cd crates/fitout/data && ../../../target/bin/fitout
+	cd crates/fitout && rt run -- "$(CURDIR)/crates/fitout/data/netlist.blif" "$(CURDIR)/crates/fitout/data/delays.tlv"
 
 test:
 	bash .ci/run

@@ -44,7 +44,7 @@ Closes (refuses f) v = v ≡ refuses f
 Closes (netlist ss) (netlist ts) = (ts ≡ ss) × Acyclic ss
 Closes (netlist ss) (refuses f) = (s : ℕ) × LowestOnCycle ss s × (f ≡ fault Cycle (slice_index_or ss s no_signal).name.place)
 
--- what a text means: line by line, then the missing.end, then signals without a driver, then cycles
+-- what a text means: line by line, then the missing .end, then signals without a driver, then cycles
 abbrev pub Means : List ℕ → Verdict → Type 0
 Means text v = Closes (read text) v
 

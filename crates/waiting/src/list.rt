@@ -19,7 +19,7 @@ pub trait WaitingList {
     // Tells the limit, and changes nothing.
     fn limit(&self) -> usize
         ensures value { result ≡ limit self.now }
-        ensures same { self.now ≡ self.now };
+        ensures same { self.exit.now ≡ self.entry.now };
 
     // Empties the set.
     fn clear(&mut self)

@@ -1,4 +1,4 @@
--- AllByRecursion but the ranking is by computation.
+-- All but the ranking is by computation.
 use Rattle.std.proofs.Common.{ℕ, zero, suc, ◌<◌, refl, lit<}
 use Rattle.std.specs.List.{AllByRecursion}
 use Rattle.paths.specs.Listing.{paths}
