@@ -3,7 +3,6 @@ use Rattle.std.proofs.Common.{◌≡◌, ℕ, ◌≤◌, Bool, true, false, cond
 use Rattle.std.specs.Option.{option_or}
 use Rattle.std.specs.List.{AllByRecursion}
 use Rattle.std.proofs.lemmas.Bool.{eqb-true, and_parts, cases_Bool, cond-true, cond-false, or_left, or_right}
-use Rattle.fields.specs.declared.entry.Clock.{Clock}
 use Rattle.fields.specs.declared.entry.Entry.{Entry}
 use Rattle.fields.specs.declared.entry.Entry.TheVariants as entry
 use Rattle.fields.specs.declared.faults.FieldFault.{FieldFault}

@@ -1,11 +1,11 @@
 -- Edits that pass the checks, and edits that do not.
-use Rattle.std.proofs.Common.{◌≡◌, ℕ, ◌+◌, ◌*◌, ◌<◌, ◌≤◌, Bool, true, false, cond, not, ◌&&◌, ◌||◌, ltb, List, length, get_or, Some, None, Ok, Err, Option, Result, sym, refl, ap, ◌∙◌, subst, ap₂, ⊎_elim, arith}
+use Rattle.std.proofs.Common.{◌≡◌, ℕ, ◌*◌, ◌<◌, ◌≤◌, Bool, true, false, cond, not, ◌&&◌, ◌||◌, ltb, length, Some, None, Ok, Err, Option, Result, sym, refl, ap, ◌∙◌, subst, ap₂, ⊎_elim, arith}
 use Rattle.std.proofs.lemmas.List.{get_or_past}
 use Rattle.std.proofs.lemmas.Bool.{cases_lt, lt-ltb, le-ltb, ltb-true, ltb-false, and_parts, or_parts}
 use Rattle.gauge.specs.Matrix.{edge_ops}
 use Rattle.gauge.specs.Semirings.{Ops}
 use Rattle.gauge.specs.declared.matrix.EdgeMatrix.{EdgeMatrix}
-use Rattle.network.specs.Net.{signals, size, fanin, is_source_of}
+use Rattle.network.specs.Net.{signals, size, fanin}
 use Rattle.network.specs.Wiring.{absent, pin_count_lem}
 use Rattle.network.specs.declared.network.Network.{Network}
 use Rattle.network.specs.declared.signal.Signal.{Signal}
@@ -16,8 +16,7 @@ use Rattle.opening.specs.Boards.{View}
 use Rattle.book.specs.declared.edit_fault.EditFault.{EditFault}
 use Rattle.book.specs.declared.edit_fault.EditFault.TheVariants.{TooShort, LowLimit, NoSuchPart, EarlyAboveLate, ClosesCycle}
 use Rattle.book.specs.Answers.{unless}
-use Rattle.book.specs.Changes.{edited_by}
-use Rattle.book.specs.Judging.{Lent, too_short, marks, crosses, known, closes, part_fault, judge}
+use Rattle.book.specs.Judging.{too_short, marks, crosses, known, closes, part_fault, judge}
 use Rattle.board.specs.Books.{book_of, lent_of}
 use Rattle.board.specs.Steps.{Stepped}
 use Rattle.board.proofs.Webs.{book_long, pins_are, sources_are}

@@ -1,15 +1,12 @@
 -- Cycles among the signals that a text describes are those of the network's signals.
-use Rattle.std.proofs.Common.{◌≡◌, ℕ, zero, suc, ◌<◌, ◌≤◌, List, [], ◌∷◌, length, get_or, take, Ok, Err, Result, sym, refl, ap, ◌∙◌, subst, arith, length-take-le, get_or-take}
-use Rattle.network.specs.Build.{Built}
+use Rattle.std.proofs.Common.{◌≡◌, ℕ, zero, suc, ◌<◌, List, [], ◌∷◌, length, get_or, sym, refl, ap, ◌∙◌, subst, arith, length-take-le, get_or-take}
 use Rattle.network.specs.Reach as net
 use Rattle.network.specs.Reach.{Reaches, wire, further}
 use Rattle.network.specs.Wiring.{absent, driver, pin_count_lem, signal_at_pin}
-use Rattle.network.specs.declared.cyclic.Cyclic.{Cyclic}
-use Rattle.network.specs.declared.network.Network.{Network}
 use Rattle.network.specs.declared.signal.Driver.{Driver}
 use Rattle.network.specs.declared.signal.Driver.TheVariants.{Undriven, Input, Latched, Gated}
 use Rattle.network.specs.declared.signal.Signal.{Signal}
-use Rattle.netlist.specs.Cycles.{pins_of, pins_at, Wire, OnCycle, LowestOnCycle, Acyclic}
+use Rattle.netlist.specs.Cycles.{pins_of, pins_at, Wire, LowestOnCycle, Acyclic}
 use Rattle.netlist.specs.Signals.{no_signal}
 use Rattle.netlist.specs.Views.{driver_on, signals_on}
 

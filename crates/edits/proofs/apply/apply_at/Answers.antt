@@ -1,4 +1,4 @@
-use Rattle.std.proofs.Common.{◌≡◌, ℕ, ◌≤◌, List, length, None, Ok, Err, sym, refl, ap, ◌∙◌, subst, arith}
+use Rattle.std.proofs.Common.{◌≡◌, ℕ, length, Err, sym, refl, ap, ◌∙◌, subst, arith}
 use Rattle.std.proofs.lemmas.Result.{err_from_is_err_and}
 use Rattle.gauge.specs.Matrix.{edge_ops}
 use Rattle.paths.specs.Edits.{only, Settled, edit_count}
@@ -9,7 +9,7 @@ use Rattle.opening.specs.Forwards.{forwards}
 use Rattle.board.specs.Steps.{Stepped}
 use Rattle.edits.specs.Checks.{checked}
 use Rattle.edits.specs.Writes.{Left}
-use Rattle.edits.proofs.Passing.{no_fault, a_fault, Passed, passed, refused, step_refused}
+use Rattle.edits.proofs.Passing.{no_fault, a_fault, passed, refused, step_refused}
 use Rattle.edits.proofs.Accepting.{step_left, as_many, still_fits, edited_still_there, step_wrote}
 use Rattle.edits.proofs.apply.apply_at.Goals as goal
 

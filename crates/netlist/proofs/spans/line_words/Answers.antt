@@ -1,4 +1,4 @@
-use Rattle.std.proofs.Common.{◌+◌, ◌++◌, drop, vec_items, refl, ap, ◌∙◌, arith}
+use Rattle.std.proofs.Common.{◌++◌, drop, vec_items, refl, ap, ◌∙◌, arith}
 use Rattle.text.specs.Text.{words}
 use Rattle.netlist.specs.Views.{pieces}
 use Rattle.netlist.proofs.Passes.{words_more, words_end}

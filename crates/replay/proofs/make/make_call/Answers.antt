@@ -1,7 +1,7 @@
-use Rattle.std.proofs.Common.{ℕ, length, Ok, Err, rules, sym, subst, ap, ◌∙◌}
+use Rattle.std.proofs.Common.{length, Ok, Err, rules, sym, subst, ap, ◌∙◌}
 use Rattle.std.proofs.lemmas.Result.{err_from_is_err_and}
-use Rattle.opening.specs.Boards.{View, view_of, view_at}
-use Rattle.board.specs.Runs.{Called, CallFollows}
+use Rattle.opening.specs.Boards.{View, view_of}
+use Rattle.board.specs.Runs.{Called}
 use Rattle.board.proofs.Chaining.{calls_follow}
 use Rattle.replay.specs.Calls.{call_of}
 use Rattle.replay.specs.declared.call.Call.{Call}

@@ -1,4 +1,4 @@
-use Rattle.std.proofs.Common.{◌≡◌, true, false, Err, sym, ap, ◌∙◌}
+use Rattle.std.proofs.Common.{true, false, Err, sym, ap, ◌∙◌}
 use Rattle.std.proofs.lemmas.Result.{err_from_is_err_and}
 use Rattle.opening.specs.Boards.{view_of}
 use Rattle.script.proofs.Checking.{room_refused, length_judged}

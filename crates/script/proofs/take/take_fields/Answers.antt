@@ -1,10 +1,8 @@
-use Rattle.std.proofs.Common.{◌≡◌, ℕ, ◌≤◌, length, Ok, Err, Result, sym, refl, ap, ◌∙◌, subst, ap₂, arith}
+use Rattle.std.proofs.Common.{ℕ, length, Ok, Err, sym, refl, ap, ◌∙◌, subst, arith}
 use Rattle.std.proofs.lemmas.Result.{err_from_is_err_and}
 use Rattle.fields.specs.Lists.{fields}
 use Rattle.fields.specs.Says.{edit_of}
 use Rattle.opening.specs.Boards.{View, view_of}
-use Rattle.book.specs.declared.script_fault.ScriptFault.{ScriptFault}
-use Rattle.book.specs.declared.script_fault.ScriptFault.TheVariants as fault
 use Rattle.board.specs.Runs.{Taken}
 use Rattle.board.specs.Steps.{Stepped}
 use Rattle.script.proofs.Taking.{count_few, ends, stops, refuses, goes}

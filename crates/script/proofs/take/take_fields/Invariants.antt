@@ -1,6 +1,5 @@
 use Rattle.std.proofs.Common.{◌≡◌, ◌-◌, ◌*◌, ◌≤◌, length}
 use Rattle.waiting.specs.Turns.{Empty}
-use Rattle.opening.specs.Boards.{view_of}
 use Rattle.script.proofs.Taking.{Onto}
 use Rattle.script.proofs.take.take_fields.Given as goal
 
