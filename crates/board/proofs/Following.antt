@@ -12,7 +12,7 @@ use Rattle.paths.specs.Sums.{path_sum}
 use Rattle.paths.specs.Theorems.{EditRight}
 use Rattle.paths.specs.Web.{SameExcept}
 use Rattle.paths.proofs.Edits.{edits_right}
-use Rattle.network.specs.Net.{signals as signalsOf, size}
+use Rattle.network.specs.Net.{signals as signals_of, size}
 use Rattle.network.specs.Rewiring.{rewired_driver}
 use Rattle.network.specs.Senses.{raises_in, lowers_in}
 use Rattle.network.specs.Wiring.{absent, driver, is_source, pin_count_lem, signal_at_pin}
@@ -65,66 +65,66 @@ entry_refed Undriven v w k u = refl
 entry_refed Input v w k u = refl
 entry_refed (Latched l) v w k u = refl
 entry_refed {V} (Gated g) v w k u =
-    let fedBy : (j : ℕ) → ℕ → Pin V = λ j s. record { from = s; raises = raises_in (Gated g) j; lowers = lowers_in (Gated g) j; weight = w j } in
+    let fed_by : (j : ℕ) → ℕ → Pin V = λ j s. record { from = s; raises = raises_in (Gated g) j; lowers = lowers_in (Gated g) j; weight = w j } in
     ap (λ (ps : List (Pin V)). record { source = false; start = v; pins = ps })
     (counted_update (pin_from (Gated g) w) (pin_from (rewired_driver (Gated g) k u) w) g.pin_count k (refed u)
-    (λ l. ap (fedBy k) (get_or-set_same g.pins k u 0 (omega (arith, g.few, g.wide))))
-    (λ j l ne. ap (fedBy j) (get_or-set_other g.pins k j u 0 ne)))
+    (λ l. ap (fed_by k) (get_or-set_same g.pins k u 0 (omega (arith, g.few, g.wide))))
+    (λ j l ne. ap (fed_by j) (get_or-set_other g.pins k j u 0 ne)))
 
 module _ {G : Type 0} (r : Ops G) (delays : ℕ → ℕ → G) where
   module _ (x : View (EdgeMatrix G)) where
     -- the entries after an edit
     abbrev after : Edit → ℕ → Entry (EdgeMatrix G)
-    after e = entry_by (signals_after e (signalsOf x.network)) (cells (edge_ops r) (starts_after r delays e x.starts))
-        (λ s k. cells (edge_ops r) (weights_after r delays (signalsOf x.network) e x.weights) (4 * s + k))
+    after e = entry_by (signals_after e (signals_of x.network)) (cells (edge_ops r) (starts_after r delays e x.starts))
+        (λ s k. cells (edge_ops r) (weights_after r delays (signals_of x.network) e x.weights) (4 * s + k))
 
     module _ (weights-fit : 4 * size x.network ≤ length x.weights) (starts_fit : size x.network ≤ length x.starts) where
       weight_here : (g k : ℕ) (f : Pin (EdgeMatrix G) → EdgeMatrix G) → g < size x.network
-          → let d = driver (signalsOf x.network) g in
+          → let d = driver (signals_of x.network) g in
           let w = λ (j : ℕ). cells (edge_ops r) x.weights (4 * g + j) in
           entry_from d (cells (edge_ops r) x.starts g) (λ j. cells (edge_ops r) (set x.weights (4 * g + k) (f (pin_from d w k))) (4 * g + j))
           ≡ repinned k (reweighed f) (entry_of (edge_ops r) x g)
       weight_here g k f in' =
-          entry_reweighed (driver (signalsOf x.network) g) (cells (edge_ops r) x.starts g) _ _ k f
+          entry_reweighed (driver (signals_of x.network) g) (cells (edge_ops r) x.starts g) _ _ k f
           (λ l. get_or-set_same x.weights (4 * g + k) _ (edge_ops r).zero (omega (arith, (small x.network).pins g)))
           (λ j l ne. get_or-set_other x.weights (4 * g + k) (4 * g + j) _ (edge_ops r).zero (λ e. ne (omega arith)))
 
       entry_here : (e : Edit) → edited_by e < size x.network → after e (edited_by e) ≡ edited r delays e (entry_of (edge_ops r) x (edited_by e))
       entry_here (SetDelay g k t) in' = weight_here g k (λ p. weight_of r delays p.raises p.lowers t) in'
       entry_here (SetStart s t) in' =
-          ap (λ (v : EdgeMatrix G). entry_from (driver (signalsOf x.network) s) v (λ k. cells (edge_ops r) x.weights (4 * s + k)))
+          ap (λ (v : EdgeMatrix G). entry_from (driver (signals_of x.network) s) v (λ k. cells (edge_ops r) x.weights (4 * s + k)))
           (get_or-set_same x.starts s (start_of r delays t) (edge_ops r).zero (omega arith))
       entry_here (Rewire g k u) in' =
           let w = λ (j : ℕ). cells (edge_ops r) x.weights (4 * g + j) in
-          ap (λ (y : Signal). entry_from y.driver (cells (edge_ops r) x.starts g) w) (get_or-set_same (signalsOf x.network) g _ absent in')
-          ∙ entry_refed (driver (signalsOf x.network) g) (cells (edge_ops r) x.starts g) w k u
+          ap (λ (y : Signal). entry_from y.driver (cells (edge_ops r) x.starts g) w) (get_or-set_same (signals_of x.network) g _ absent in')
+          ∙ entry_refed (driver (signals_of x.network) g) (cells (edge_ops r) x.starts g) w k u
       entry_here (Cut g k) in' = weight_here g k (λ p. (edge_ops r).zero) in'
 
     weight_else : (g k : ℕ) (v : EdgeMatrix G) → has_pin (edge_ops r) (book_of (edge_ops r) x) g k ≡ true → (s : ℕ) → s ≢ g
-        → entry_from (driver (signalsOf x.network) s) (cells (edge_ops r) x.starts s) (λ j. cells (edge_ops r) (set x.weights (4 * g + k) v) (4 * s + j)) ≡ entry_of (edge_ops r) x s
+        → entry_from (driver (signals_of x.network) s) (cells (edge_ops r) x.starts s) (λ j. cells (edge_ops r) (set x.weights (4 * g + k) v) (4 * s + j)) ≡ entry_of (edge_ops r) x s
     weight_else g k v has s ne =
         let low : k < 4 = omega (arith, (pin_within (edge_ops r) x g k has).1, (small x.network).pins g) in
-        entry_same (driver (signalsOf x.network) s) (cells (edge_ops r) x.starts s) _ _
+        entry_same (driver (signals_of x.network) s) (cells (edge_ops r) x.starts s) _ _
         (λ j l. get_or-set_other x.weights (4 * g + k) (4 * s + j) v (edge_ops r).zero (λ e. ne (omega (arith, (small x.network).pins s))))
 
     entry_else : (e : Edit) → known (edge_ops r) (book_of (edge_ops r) x) e ≡ true → (s : ℕ) → s ≢ edited_by e → after e s ≡ entry_of (edge_ops r) x s
     entry_else (SetDelay g k t) is s ne = weight_else g k _ is s ne
     entry_else (SetStart u t) is s ne =
-        ap (λ (v : EdgeMatrix G). entry_from (driver (signalsOf x.network) s) v (λ k. cells (edge_ops r) x.weights (4 * s + k)))
+        ap (λ (v : EdgeMatrix G). entry_from (driver (signals_of x.network) s) v (λ k. cells (edge_ops r) x.weights (4 * s + k)))
         (get_or-set_other x.starts u s (start_of r delays t) (edge_ops r).zero ne)
     entry_else (Rewire g k u) is s ne =
         ap (λ (y : Signal). entry_from y.driver (cells (edge_ops r) x.starts s) (λ j. cells (edge_ops r) x.weights (4 * s + j)))
-        (get_or-set_other (signalsOf x.network) g s _ absent ne)
+        (get_or-set_other (signals_of x.network) g s _ absent ne)
     entry_else (Cut g k) is s ne = weight_else g k _ is s ne
 
   pub book_after : (e : Edit) (x y : View (EdgeMatrix G)) → known (edge_ops r) (book_of (edge_ops r) x) e ≡ true
       → 4 * size x.network ≤ length x.weights → size x.network ≤ length x.starts
-      → signalsOf y.network ≡ signals_after e (signalsOf x.network) → y.starts ≡ starts_after r delays e x.starts
-      → y.weights ≡ weights_after r delays (signalsOf x.network) e x.weights
+      → signals_of y.network ≡ signals_after e (signals_of x.network) → y.starts ≡ starts_after r delays e x.starts
+      → y.weights ≡ weights_after r delays (signals_of x.network) e x.weights
       → book_of (edge_ops r) y ≡ changed r delays e (book_of (edge_ops r) x)
   book_after e x y is weights-fit starts_fit signals starts weights =
       (λ i. book_by (signals i) (cells (edge_ops r) (starts i)) (λ s k. cells (edge_ops r) (weights i) (4 * s + k)))
-      ∙ ap (λ n. map (after x e) (range_with_len 0 n)) (signals_long e (signalsOf x.network))
+      ∙ ap (λ n. map (after x e) (range_with_len 0 n)) (signals_long e (signals_of x.network))
       ∙ counted_update (entry_of (edge_ops r) x) (after x e) (size x.network) (edited_by e) (edited r delays e)
       (entry_here x weights-fit starts_fit e) (λ s l ne. entry_else x e is s ne)
 

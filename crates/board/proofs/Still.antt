@@ -8,7 +8,7 @@ use Rattle.std.proofs.lemmas.Bool.{cases_lt}
 use Rattle.gauge.specs.Matrix.{edge_ops}
 use Rattle.gauge.specs.Semirings.{Ops}
 use Rattle.gauge.specs.declared.matrix.EdgeMatrix.{EdgeMatrix}
-use Rattle.network.specs.Net.{signals as signalsOf, size, fanin}
+use Rattle.network.specs.Net.{signals as signals_of, size, fanin}
 use Rattle.network.specs.Rewiring.{rewired_driver, rewired}
 use Rattle.network.specs.Wiring.{absent, pin_count_lem}
 use Rattle.network.specs.declared.signal.Driver.{Driver}
@@ -127,14 +127,14 @@ module _ {G : Type 0} (r : Ops G) (delays : ℕ → ℕ → G) where
           omega (arith, there, (small x.network).pins g, ap (fanin x.network) same))
 
     weights_past : (e : Edit) → known (edge_ops r) (book_of (edge_ops r) x) e ≡ true
-        → drop (4 * size x.network) (weights_after r delays (signalsOf x.network) e x.weights) ≡ drop (4 * size x.network) x.weights
+        → drop (4 * size x.network) (weights_after r delays (signals_of x.network) e x.weights) ≡ drop (4 * size x.network) x.weights
     weights_past (SetDelay g k t) is = weight_past g k _ is
     weights_past (SetStart s t) is = refl
     weights_past (Rewire g k u) is = refl
     weights_past (Cut g k) is = weight_past g k _ is
 
     weights_absent : (e : Edit) → known (edge_ops r) (book_of (edge_ops r) x) e ≡ true → (s j : ℕ) → fanin x.network s ≤ j → j < 4
-        → cells (edge_ops r) (weights_after r delays (signalsOf x.network) e x.weights) (4 * s + j) ≡ cells (edge_ops r) x.weights (4 * s + j)
+        → cells (edge_ops r) (weights_after r delays (signals_of x.network) e x.weights) (4 * s + j) ≡ cells (edge_ops r) x.weights (4 * s + j)
     weights_absent (SetDelay g k t) is s j past low = weight_absent g k _ is s j past low
     weights_absent (SetStart u t) is s j past low = refl
     weights_absent (Rewire g k u) is s j past low = refl
@@ -145,8 +145,8 @@ module _ {G : Type 0} (r : Ops G) (delays : ℕ → ℕ → G) where
   step_keeps strip limit at e x y (Ok n) h =
       let acc = h.1 in
       let n = size x.network in
-      let xs = signalsOf x.network in
-      let ys = signalsOf y.network in
+      let xs = signals_of x.network in
+      let ys = signals_of y.network in
       let is = (admitted (edge_ops r) (book_of (edge_ops r) x) (lent_of x strip limit) at e h.0).is_known in
       let many : size y.network ≡ n = accepted_size r delays e x y _ acc in
       record {

@@ -5,7 +5,7 @@ use Rattle.gauge.specs.Semirings.{Ops}
 use Rattle.gauge.specs.declared.matrix.EdgeMatrix.{EdgeMatrix}
 use Rattle.weights.specs.Weights.{weight_of, start_of}
 use Rattle.paths.specs.Edits.{only, Settled, edit_count}
-use Rattle.network.specs.Net.{signals as signalsOf, size}
+use Rattle.network.specs.Net.{signals as signals_of, size}
 use Rattle.network.specs.Rewiring.{rewired_at}
 use Rattle.network.specs.Senses.{raises_in, lowers_in}
 use Rattle.network.specs.Wiring.{driver}
@@ -44,9 +44,9 @@ module _ {G : Type 0} (r : Ops G) (delays : ℕ → ℕ → G) where
   -- an accepted edit takes the board x to y: the edited signal is worked again, and so is each signal fed by one whose cell changed;
   -- n is their number, and every other cell is as it was
   pub record Accepted (e : Edit) (x y : View (EdgeMatrix G)) (n : ℕ) : Type 0 where
-    pub signals : signalsOf y.network ≡ signals_after e (signalsOf x.network)
+    pub signals : signals_of y.network ≡ signals_after e (signals_of x.network)
     pub starts : y.starts ≡ starts_after e x.starts
-    pub weights : y.weights ≡ weights_after (signalsOf x.network) e x.weights
+    pub weights : y.weights ≡ weights_after (signals_of x.network) e x.weights
     pub long : length y.values ≡ length x.values
     pub past : drop (size x.network) y.values ≡ drop (size x.network) x.values
     pub settled : Settled (edge_ops r) (only (edited_by e)) (web (edge_ops r) (book_of (edge_ops r) y)) (value_of (edge_ops r) x) (value_of (edge_ops r) y)

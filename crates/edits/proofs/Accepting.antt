@@ -5,7 +5,7 @@ use Rattle.gauge.specs.Matrix.{edge_ops}
 use Rattle.gauge.specs.Semirings.{Ops}
 use Rattle.gauge.specs.declared.matrix.EdgeMatrix.{EdgeMatrix}
 use Rattle.paths.specs.Edits.{only, Settled, edit_count}
-use Rattle.network.specs.Net.{signals as signalsOf, size, is_source_of}
+use Rattle.network.specs.Net.{signals as signals_of, size, is_source_of}
 use Rattle.network.specs.declared.network.Network.{Network}
 use Rattle.settling.specs.Tables.{cells, web_on, TablesFit}
 use Rattle.fields.specs.declared.edit.Edit.{Edit}
@@ -63,13 +63,13 @@ module _ {G : Type 0} (r : Ops G) (delays : ℕ → ℕ → G) (x y : View (Edge
 
   module _ (wrote : Wrote r delays e at x.network y.network x.starts y.starts x.weights y.weights) where
     pub as_many : size y.network ≡ size x.network
-    as_many = ap length wrote.signals ∙ signals_long e (signalsOf x.network)
+    as_many = ap length wrote.signals ∙ signals_long e (signals_of x.network)
 
     -- the tables still fit
     pub still_fits : TablesFit (forwards y.network) y.starts y.weights x.values
     still_fits =
         let starts = ap length wrote.starts_are ∙ starts_long r delays e x.starts in
-        let weights = ap length wrote.weights_are ∙ weights_long r delays (signalsOf x.network) e x.weights in
+        let weights = ap length wrote.weights_are ∙ weights_long r delays (signals_of x.network) e x.weights in
         fits y.network y.starts y.weights x.values (omega (arith, as_many, starts, ok.starts)) (omega (arith, as_many, weights, ok.weights)) (omega (arith, as_many, ok.values))
 
     pub edited_still_there : edited_by e < size y.network

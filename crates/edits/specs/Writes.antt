@@ -2,7 +2,7 @@
 use Rattle.std.specs.Prelude.{◌≡◌, ℕ, List, Ok, Err, Result}
 use Rattle.gauge.specs.Semirings.{Ops}
 use Rattle.gauge.specs.declared.matrix.EdgeMatrix.{EdgeMatrix}
-use Rattle.network.specs.Net.{signals as signalsOf}
+use Rattle.network.specs.Net.{signals as signals_of}
 use Rattle.network.specs.Rewiring.{Downstream}
 use Rattle.network.specs.declared.network.Network.{Network}
 use Rattle.fields.specs.declared.edit.Edit.{Edit}
@@ -15,15 +15,15 @@ use Rattle.board.specs.Steps.{signals_after, starts_after, weights_after}
 abbrev pub Closing : Network → Edit → Type 0
 Closing net (SetDelay g k t) = ⊥
 Closing net (SetStart s t) = ⊥
-Closing net (Rewire g k u) = Downstream (signalsOf net) g u
+Closing net (Rewire g k u) = Downstream (signals_of net) g u
 Closing net (Cut g k) = ⊥
 
 module _ {G : Type 0} (r : Ops G) (delays : ℕ → ℕ → G) (e : Edit) (at : ℕ) where
   pub record Wrote (net net' : Network) (starts starts' weights weights' : List (EdgeMatrix G)) : Type 0 where
     pub apart : Closing net e → ⊥
-    pub signals : signalsOf net' ≡ signals_after e (signalsOf net)
+    pub signals : signals_of net' ≡ signals_after e (signals_of net)
     pub starts_are : starts' ≡ starts_after r delays e starts
-    pub weights_are : weights' ≡ weights_after r delays (signalsOf net) e weights
+    pub weights_are : weights' ≡ weights_after r delays (signals_of net) e weights
 
   pub record Left (net net' : Network) (starts starts' weights weights' : List (EdgeMatrix G)) (d : EditFault) : Type 0 where
     pub closing : Closing net e

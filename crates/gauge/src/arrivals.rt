@@ -1,7 +1,7 @@
 // Arrivals: a time, or none where no path arrives.
 ghost use Rattle.std.specs.Prelude.{◌≡◌, Some};
 ghost use Rattle.gauge.specs.Times.{larger, smaller, time};
-ghost use Rattle.gauge.specs.Arrivals.{chosen, passed, alike as sameArrival};
+ghost use Rattle.gauge.specs.Arrivals.{chosen, passed, alike as same_arrival};
 
 use crate::time::Time;
 
@@ -48,7 +48,7 @@ pub fn delayed(a: Option<Time>, b: Option<Time>) -> Option<Time>
 }
 
 pub fn alike(a: Option<Time>, b: Option<Time>) -> bool
-    ensures { result ≡ sameArrival a b }
+    ensures { result ≡ same_arrival a b }
 {
     let Some(x) = a else {
         return b.is_none();

@@ -1,7 +1,7 @@
 -- A gate that is to read another signal at a pin.
 use Rattle.std.specs.Prelude.{◌≡◌, ℕ, ◌≤◌, ◌⊎◌, List, slice_index_or, slice_set}
 use Rattle.std.proofs.Common.{sym, subst, length-set}
-use Rattle.network.specs.Net.{signals as signalsOf}
+use Rattle.network.specs.Net.{signals as signals_of}
 use Rattle.network.specs.Reach.{Wire, Reaches, OnCycle}
 use Rattle.network.specs.Wiring.{absent}
 use Rattle.network.specs.declared.network.Network.{Network}
@@ -39,11 +39,11 @@ rewired_at xs gate pin feeder = slice_set xs gate (rewired (slice_index_or xs ga
 
 -- the feeder is not downstream of the gate, and is at the pin
 pub record Accepted (before after : Network) (gate pin feeder : ℕ) : Type 0 where
-  pub apart : Downstream (signalsOf before) gate feeder → ⊥
-  pub signals : signalsOf after ≡ rewired_at (signalsOf before) gate pin feeder
+  pub apart : Downstream (signals_of before) gate feeder → ⊥
+  pub signals : signals_of after ≡ rewired_at (signals_of before) gate pin feeder
 
 -- the feeder is downstream of the gate, which would have been on a cycle; nothing has changed
 pub record Refused (before after : Network) (gate pin feeder : ℕ) : Type 0 where
-  pub reached : Downstream (signalsOf before) gate feeder
+  pub reached : Downstream (signals_of before) gate feeder
   pub same : after ≡ before
-  pub cyclic : OnCycle (rewired_at (signalsOf before) gate pin feeder) gate
+  pub cyclic : OnCycle (rewired_at (signals_of before) gate pin feeder) gate

@@ -1,6 +1,6 @@
 // The wires of a list of signals.
 ghost use Rattle.std.specs.Prelude.{◌≡◌, ◌<◌, ◌≤◌, length};
-ghost use Rattle.network.specs.Wiring.{wires, feeder as feederOf};
+ghost use Rattle.network.specs.Wiring.{wires, feeder as feeder_of};
 
 use crate::signal::{Driver, Signal};
 
@@ -23,7 +23,7 @@ pub(crate) fn pin_count(signals: &[Signal], signal: usize) -> usize
 pub(crate) fn feeder(signals: &[Signal], signal: usize, pin: usize) -> usize
     requires here { signal < length signals.now }
     requires there { pin < wires signals.now signal }
-    ensures { result ≡ feederOf signals.now signal pin }
+    ensures { result ≡ feeder_of signals.now signal pin }
 {
     let driven = &signals[signal];
     match driven.driver {

@@ -2,7 +2,7 @@
 ghost use Rattle.std.specs.Prelude.{◌≡◌, ◌≤◌, slice_index_or};
 ghost use Rattle.std.specs.List.{slice_get};
 ghost use Rattle.network.specs.Limit.{max_signals};
-ghost use Rattle.network.specs.Net.{signals as signalsOf, size as size_of, name_of, driver_of, is_output_lem, is_captured_lem, is_endpoint_lem, is_source_of, fanin};
+ghost use Rattle.network.specs.Net.{signals as signals_of, size as size_of, name_of, driver_of, is_output_lem, is_captured_lem, is_endpoint_lem, is_source_of, fanin};
 ghost use Rattle.network.specs.Wiring.{absent};
 
 use crate::network::Network;
@@ -21,7 +21,7 @@ impl Network {
 
     /// The signal of a number.
     pub fn get(&self, signal: usize) -> Option<Signal>
-        ensures { result ≡ slice_get (signalsOf self.now) signal }
+        ensures { result ≡ slice_get (signals_of self.now) signal }
     {
         if signal < self.signals.len() {
             Some(self.signals[signal])
@@ -32,7 +32,7 @@ impl Network {
 
     // The signal of a number, or a blank one past the last.
     fn found(&self, signal: usize) -> Signal
-        ensures { result ≡ slice_index_or (signalsOf self.now) signal absent }
+        ensures { result ≡ slice_index_or (signals_of self.now) signal absent }
     {
         if signal < self.signals.len() {
             return self.signals[signal];

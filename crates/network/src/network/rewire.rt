@@ -1,7 +1,7 @@
 // A pin's new feeder.
 ghost use Rattle.std.specs.Prelude.{◌≡◌, ◌<◌, ◌≤◌, false, length, MatchResult};
 ghost use Rattle.network.specs.Marks.{marked, MarksReached};
-ghost use Rattle.network.specs.Net.{signals as signalsOf, size as size_of, fanin};
+ghost use Rattle.network.specs.Net.{signals as signals_of, size as size_of, fanin};
 ghost use Rattle.network.specs.Rewiring.{rewired, rewired_at, Accepted, Refused};
 ghost use Rattle.network.specs.Wiring.{pin_count_lem};
 
@@ -44,7 +44,7 @@ impl Network {
         requires fits { size_of self.old ≤ length marks.now }
         requires reached { MarksReached self.old gate marks.now }
         requires apart { marked marks.now feeder ≡ false }
-        ensures { signalsOf self.new ≡ rewired_at (signalsOf self.old) gate pin feeder }
+        ensures { signals_of self.new ≡ rewired_at (signals_of self.old) gate pin feeder }
     {
         renumber(&self.order, marks, &mut self.turn_of);
         list_by_turn(&self.turn_of, &mut self.order);
