@@ -1,5 +1,5 @@
 // Makes any edit.
-ghost use Rattle.std.specs.Prelude.{◌≡◌, ℕ, length};
+ghost use Rattle.std.specs.Prelude.{◌≡◌, length};
 ghost use Rattle.waiting.specs.Turns.{Empty};
 ghost use Rattle.opening.specs.Boards.{view_of, view_at};
 ghost use Rattle.board.specs.Steps.{Stepped};

@@ -2,11 +2,10 @@
 use crate::boards::Tables;
 use crate::show::show_name;
 use gauge::count::Count;
-use gauge::count::gauge::*;
-use gauge::early::*;
+use gauge::early::Early;
 use gauge::edge::Edge;
 use gauge::gauges::Gauge;
-use gauge::late::*;
+use gauge::late::Late;
 use gauge::time::Time;
 use network::network::Network;
 use opening::open::Opened;

@@ -1,14 +1,14 @@
 // Boards over the three gauges, opened on one network.
 use delays::faults::DelayFault;
 use gauge::gauges::Gauge;
-use gauge::matrix::*;
+use gauge::matrix::EdgeMatrix;
 use gauge::semiring::Semiring;
 use network::limit::MAX_SIGNALS;
 use network::network::Network;
 use opening::board::Board;
 use opening::open::{Opened, open};
 use std::alloc::{AllocError, Global};
-use waiting::strip::*;
+use waiting::strip::BitStrip;
 
 /// The three tables of a board.
 #[derive(Drop)]

@@ -7,7 +7,7 @@ use network::signal::{Driver, Latch};
 use network::span::Span;
 use std::io;
 use waiting::list::WaitingList;
-use waiting::strip::*;
+use waiting::strip::BitStrip;
 
 /// A refusal, with the file that is refused and the cause in words.
 pub fn show_refusal(rt: &HostRuntime, file: &str, refusal: Refusal) -> io::Result<()> {

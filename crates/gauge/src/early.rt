@@ -1,7 +1,6 @@
-ghost use Rattle.gauge.specs.Early.{early_ops, early_delays};
+ghost use Rattle.gauge.specs.Early.{early, early_ops, early_delays};
 ghost use Rattle.std.specs.Prelude.{refl};
-ghost use Rattle.gauge.specs.Arrivals;
-ghost use Rattle.gauge.specs.Early as SpecsEarly;
+ghost use Rattle.gauge.specs.Arrivals.{arrivals};
 ghost use Rattle.gauge.specs.Times.{smaller};
 ghost use Rattle.gauge.specs.Choosing.{arrivals_laws, arrivals_select};
 ghost use Rattle.gauge.specs.Carried.{carried_laws, carried_selects};
@@ -21,7 +20,7 @@ pub struct Early {
 impl Semiring for Early {
     ghost ops = { early_ops };
 
-    ghost laws = { carried_laws SpecsEarly.early (λ x. x.arrival) (Arrivals.arrivals smaller) (λ x. refl) (λ v. refl) (arrivals_laws smaller_keeps) };
+    ghost laws = { carried_laws early (λ x. x.arrival) (arrivals smaller) (λ x. refl) (λ v. refl) (arrivals_laws smaller_keeps) };
 
     fn zero() -> Early {
         Early { arrival: None }
@@ -57,5 +56,5 @@ impl Gauge for Early {
 }
 
 impl Selective for Early {
-    ghost selects = { carried_selects SpecsEarly.early (λ x. x.arrival) (Arrivals.arrivals smaller) (λ x. refl) (λ v. refl) (arrivals_select smaller_keeps) };
+    ghost selects = { carried_selects early (λ x. x.arrival) (arrivals smaller) (λ x. refl) (λ v. refl) (arrivals_select smaller_keeps) };
 }

@@ -1,7 +1,6 @@
-ghost use Rattle.gauge.specs.Late.{late_ops, late_delays};
+ghost use Rattle.gauge.specs.Late.{late, late_ops, late_delays};
 ghost use Rattle.std.specs.Prelude.{refl};
-ghost use Rattle.gauge.specs.Arrivals;
-ghost use Rattle.gauge.specs.Late as SpecsLate;
+ghost use Rattle.gauge.specs.Arrivals.{arrivals};
 ghost use Rattle.gauge.specs.Times.{larger};
 ghost use Rattle.gauge.specs.Choosing.{arrivals_laws, arrivals_select};
 ghost use Rattle.gauge.specs.Carried.{carried_laws, carried_selects};
@@ -21,7 +20,7 @@ pub struct Late {
 impl Semiring for Late {
     ghost ops = { late_ops };
 
-    ghost laws = { carried_laws SpecsLate.late (λ x. x.arrival) (Arrivals.arrivals larger) (λ x. refl) (λ v. refl) (arrivals_laws larger_keeps) };
+    ghost laws = { carried_laws late (λ x. x.arrival) (arrivals larger) (λ x. refl) (λ v. refl) (arrivals_laws larger_keeps) };
 
     fn zero() -> Late {
         Late { arrival: None }
@@ -57,5 +56,5 @@ impl Gauge for Late {
 }
 
 impl Selective for Late {
-    ghost selects = { carried_selects SpecsLate.late (λ x. x.arrival) (Arrivals.arrivals larger) (λ x. refl) (λ v. refl) (arrivals_select larger_keeps) };
+    ghost selects = { carried_selects late (λ x. x.arrival) (arrivals larger) (λ x. refl) (λ v. refl) (arrivals_select larger_keeps) };
 }

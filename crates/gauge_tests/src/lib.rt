@@ -4,12 +4,11 @@
 #[cfg(test)]
 mod tests {
     use gauge::count::Count;
-    use gauge::count::gauge::*;
-    use gauge::early::*;
+    use gauge::early::Early;
     use gauge::edge::Edge;
     use gauge::gauges::Gauge;
-    use gauge::late::*;
-    use gauge::matrix::*;
+    use gauge::late::Late;
+    use gauge::matrix::EdgeMatrix;
     use gauge::semiring::Semiring;
     use gauge::time::Time;
     use weights::times::Times;

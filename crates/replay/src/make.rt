@@ -1,9 +1,9 @@
 // Makes calls on a board.
-ghost use Rattle.std.specs.Prelude.{◌≡◌, ◌≤◌, length, replicate, take, drop};
+ghost use Rattle.std.specs.Prelude.{◌≡◌, length, replicate};
 ghost use Rattle.waiting.specs.Turns.{Empty};
 ghost use Rattle.opening.specs.Boards.{view_of, view_at};
-ghost use Rattle.board.specs.Runs.{made_of, Called, CallFollows, Chained};
-ghost use Rattle.replay.specs.Calls.{call_of, calls_of};
+ghost use Rattle.board.specs.Runs.{Called, CallFollows};
+ghost use Rattle.replay.specs.Calls.{call_of};
 
 use crate::call::{Call, Outcome};
 use edits::edits::apply;
