@@ -19,7 +19,7 @@ forwards net = record {
   size = size net;
   taps = λ s. map (tap_of net s) (range_with_len 0 (fanin net s));
   turn = turn net;
-  signal_at_lem = signal_at_lem net;
+  signal_at = signal_at_lem net;
 }
 
 -- what holds of f k for each k below n holds of all the list

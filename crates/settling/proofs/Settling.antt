@@ -38,8 +38,8 @@ module _ {V : Type 0} (job : Job V) where
   abbrev turn : ℕ → ℕ
   turn = job.shape.turn
 
-  abbrev signal_at_lem : ℕ → ℕ
-  signal_at_lem = job.shape.signal_at_lem
+  abbrev signal_at : ℕ → ℕ
+  signal_at = job.shape.signal_at
 
   abbrev before : ℕ → V
   before = cells r job.before
@@ -62,7 +62,7 @@ module _ {V : Type 0} (job : Job V) where
     pub record Settling (waits : ℕ → Bool) (values : List V) (count : ℕ) : Type 0 where
       pub front : ℕ
       pub settled : SettledTo front values
-      pub waiting : (t : ℕ) → waits t ≡ (leb front t && (ltb t size && due values (signal_at_lem t)))
+      pub waiting : (t : ℕ) → waits t ≡ (leb front t && (ltb t size && due values (signal_at t)))
       pub counted : count ≡ count_below size (reached front values)
       pub few : count ≤ size
 
@@ -73,7 +73,7 @@ module _ {V : Type 0} (job : Job V) where
     settled_none = record { each = λ s in'. sym (cond-false _ _ _ (none_reached job.before s)); past = refl }
 
     -- the signal s of turn t is worked next
-    module _ (front : ℕ) (values after : List V) (fit : size ≤ length values) (was : SettledTo front values) (t s : ℕ) (below : t < size) (at : s ≡ signal_at_lem t)
+    module _ (front : ℕ) (values after : List V) (fit : size ≤ length values) (was : SettledTo front values) (t s : ℕ) (below : t < size) (at : s ≡ signal_at t)
         (written : after ≡ set values s (worked r web (cells r values) s)) (ahead : front ≤ t) (is_due : due values s ≡ true)
         (quiet : (u : ℕ) → u < size → front ≤ turn u → turn u < t → due values u ≡ false) where
       abbrev v : ℕ → V
@@ -171,13 +171,13 @@ module _ {V : Type 0} (job : Job V) where
 
     -- a turn that waits is that of a signal which is due
     module _ (waits : ℕ → Bool) (values : List V) (count t : ℕ) (i : Settling waits values count) (waiting : waits t ≡ true) where
-      parts : (leb i.front t ≡ true) × ((ltb t size && due values (signal_at_lem t)) ≡ true)
+      parts : (leb i.front t ≡ true) × ((ltb t size && due values (signal_at t)) ≡ true)
       parts = and_parts _ _ (sym (i.waiting t) ∙ waiting)
 
       pub taken_below : t < size
       taken_below = ltb-true t size (and_parts _ _ parts.1).0
 
-      taken_due : due values (signal_at_lem t) ≡ true
+      taken_due : due values (signal_at t) ≡ true
       taken_due = (and_parts _ _ parts.1).1
 
       taken_ahead : i.front ≤ t
@@ -186,7 +186,7 @@ module _ {V : Type 0} (job : Job V) where
     -- one turn of the loop: t is taken, its signal s worked, and what s feeds is put if its cell changed
     pub turned : (waits left waits' : ℕ → Bool) (values after : List V) (count count' t s : ℕ) → Settling waits values count → size ≤ length values
         → Least waits t → ((u : ℕ) → left u ≡ (not (eqb u t) && waits u))
-        → s ≡ signal_at_lem t → after ≡ set values s (worked r web (cells r values) s)
+        → s ≡ signal_at t → after ≡ set values s (worked r web (cells r values) s)
         → ((u : ℕ) → waits' u ≡ with_turns_of job.shape (λ x. not (r.same (cells r values s) (cells r after s)) && feeds job.shape s x) left u)
         → count' ≡ count + 1 → Settling waits' after count'
     turned waits left waits' values after count count' t s i fit least removed at written put one_more = record {
@@ -217,11 +217,11 @@ module _ {V : Type 0} (job : Job V) where
         counts : count' ≡ count_below size (reached (t + 1) after)
         counts = omega (arith, i.counted, counted_more i.front values after fit i.settled t s below at written ahead is_due quiet)
 
-        waiting : (u : ℕ) → waits' u ≡ (leb (t + 1) u && (ltb u size && due after (signal_at_lem u)))
+        waiting : (u : ℕ) → waits' u ≡ (leb (t + 1) u && (ltb u size && due after (signal_at u)))
         waiting u =
-            let more = due_more i.front values after fit i.settled t s below at written ahead is_due quiet (signal_at_lem u) in
-            let free : u < size → u ≤ t → feeds job.shape s (signal_at_lem u) ≡ false = λ l h.
-            unfed i.front values after fit i.settled t s below at written ahead is_due quiet (signal_at_lem u) (job.sound.signal_below u l) (omega (arith, job.sound.signal_back u l)) in
+            let more = due_more i.front values after fit i.settled t s below at written ahead is_due quiet (signal_at u) in
+            let free : u < size → u ≤ t → feeds job.shape s (signal_at u) ≡ false = λ l h.
+            unfed i.front values after fit i.settled t s below at written ahead is_due quiet (signal_at u) (job.sound.signal_below u l) (omega (arith, job.sound.signal_back u l)) in
             let now' = put u in
             let gone = removed u in
             let was = i.waiting u in
@@ -243,7 +243,7 @@ module _ {V : Type 0} (job : Job V) where
     begun waits alone = record {
       front = 0;
       settled = settled_none (only e);
-      waiting = λ t. let none = none_fed (signal_at_lem t) in let is = alone t in grind (arith, nat_tests);
+      waiting = λ t. let none = none_fed (signal_at t) in let is = alone t in grind (arith, nat_tests);
       counted = sym (count_none size _ (λ k in'. none_reached (only e) job.before k));
       few = omega arith;
     }

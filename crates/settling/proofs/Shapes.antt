@@ -22,7 +22,7 @@ ranks V r shape sound starts weights = (shape.turn, ranked r sound starts weight
 
 -- no two signals have one turn
 pub one_turn : {shape : Shape} → Sound shape → (s u : ℕ) → s < shape.size → u < shape.size → shape.turn s ≡ shape.turn u → s ≡ u
-one_turn {shape} sound s u in' in'' e = sym (sound.turn_back s in') ∙ ap shape.signal_at_lem e ∙ sound.turn_back u in''
+one_turn {shape} sound s u in' in'' e = sym (sound.turn_back s in') ∙ ap shape.signal_at e ∙ sound.turn_back u in''
 
 -- a tap reads within the tables
 pub tap_fits : {V : Type 0} {shape : Shape} → Sound shape → {starts weights values : List V} → TablesFit shape starts weights values
@@ -33,13 +33,13 @@ tap_fits {shape} sound {weights} fit s k x in' there e =
     (omega (arith, ap (λ y. y.from) e, fit.values_long, from), omega (arith, ap (λ y. y.cell) e, cell))
 
 -- only the signal p has its turn
-pub is_turn : {shape : Shape} → Sound shape → (p t : ℕ) → p < shape.size → eqb t (shape.turn p) ≡ (ltb t shape.size && eqb (shape.signal_at_lem t) p)
+pub is_turn : {shape : Shape} → Sound shape → (p t : ℕ) → p < shape.size → eqb t (shape.turn p) ≡ (ltb t shape.size && eqb (shape.signal_at t) p)
 is_turn {shape} sound p t in' =
     ⊎_elim
     (λ (l : t < shape.size).
     let back = sound.signal_back t l in
-    let on = λ (e : t ≡ shape.turn p). ap shape.signal_at_lem e ∙ sound.turn_back p in' in
-    let off = λ (e : shape.signal_at_lem t ≡ p). sym back ∙ ap shape.turn e in
+    let on = λ (e : t ≡ shape.turn p). ap shape.signal_at e ∙ sound.turn_back p in' in
+    let off = λ (e : shape.signal_at t ≡ p). sym back ∙ ap shape.turn e in
     grind (arith, nat_tests))
     (λ (l : shape.size ≤ t). let under = sound.turn_below p in' in grind (arith, nat_tests))
     (cases_lt t shape.size)

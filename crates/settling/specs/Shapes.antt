@@ -9,14 +9,14 @@ pub record Shape : Type 0 where
   pub size : ℕ
   pub taps : ℕ → List Tap
   pub turn : ℕ → ℕ
-  pub signal_at_lem : ℕ → ℕ
+  pub signal_at : ℕ → ℕ
 
 -- turns number the signals from 0 without gaps, and every tap comes from a signal of a smaller turn
 pub record Sound (shape : Shape) : Type 0 where
   pub turn_below : (s : ℕ) → s < shape.size → shape.turn s < shape.size
-  pub turn_back : (s : ℕ) → s < shape.size → shape.signal_at_lem (shape.turn s) ≡ s
-  pub signal_below : (t : ℕ) → t < shape.size → shape.signal_at_lem t < shape.size
-  pub signal_back : (t : ℕ) → t < shape.size → shape.turn (shape.signal_at_lem t) ≡ t
+  pub turn_back : (s : ℕ) → s < shape.size → shape.signal_at (shape.turn s) ≡ s
+  pub signal_below : (t : ℕ) → t < shape.size → shape.signal_at t < shape.size
+  pub signal_back : (t : ℕ) → t < shape.size → shape.turn (shape.signal_at t) ≡ t
   pub climbs : (s : ℕ) → s < shape.size → AllByRecursion (λ x. (x.from < shape.size) × (shape.turn x.from < shape.turn s)) (shape.taps s)
 
 -- the tap in place k of the list of s
@@ -29,7 +29,7 @@ feeds shape u s = any (λ x. nat_eq x.from u) (shape.taps s)
 
 -- the turns that wait, and those of the signals that pass the test
 abbrev pub with_turns_of : Shape → (test waits : ℕ → Bool) → ℕ → Bool
-with_turns_of shape test waits t = (nat_lt t shape.size && test (shape.signal_at_lem t)) || waits t
+with_turns_of shape test waits t = (nat_lt t shape.size && test (shape.signal_at t)) || waits t
 
 -- s is the least signal from a on that u feeds
 abbrev pub FirstFed : Shape → (u a : ℕ) → ℕ → Type 0

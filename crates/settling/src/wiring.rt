@@ -24,7 +24,7 @@ pub trait Wiring {
     /// The signal that has the turn.
     fn signal_at(&self, turn: u16) -> usize
         requires { turn < (shape self.now).size }
-        ensures { result ≡ (shape self.now).signal_at_lem turn };
+        ensures { result ≡ (shape self.now).signal_at turn };
 
     /// The number of taps into a signal.
     fn tap_count(&self, signal: usize) -> usize

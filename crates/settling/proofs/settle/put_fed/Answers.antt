@@ -10,7 +10,7 @@ loop-signal-preserved g c =
     let shape = g.N.Wiring.shape c.args.wiring.now in (
       omega (arith, first.1),
       c.put_signal.ensures.limit ∙ inv.1,
-      λ t. let more = fed_more shape c.args.source c.loop-signal.start c.in-Some.signal first (shape.signal_at_lem t) in
+      λ t. let more = fed_more shape c.args.source c.loop-signal.start c.in-Some.signal first (shape.signal_at t) in
           let added = c.put_signal.ensures.put t in
           let was = inv.2 t in
           grind arith,
@@ -24,6 +24,6 @@ returns g c =
       put = λ t.
           let was = c.loop-signal.invariant.2 t in
           let all = λ (in' : t < shape.size).
-          fed_all shape c.args.source c.loop-signal.start c.in_default.ensures (shape.signal_at_lem t) ((g.N.Wiring.sound c.args.wiring.now).signal_below t in') in
+          fed_all shape c.args.source c.loop-signal.start c.in_default.ensures (shape.signal_at t) ((g.N.Wiring.sound c.args.wiring.now).signal_below t in') in
           grind (arith, nat_tests);
     }
