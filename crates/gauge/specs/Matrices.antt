@@ -3,17 +3,12 @@ use Rattle.std.specs.Prelude.{◌≡◌, true, ◌↔◌}
 use Rattle.std.proofs.Common.{sym, ap, ◌∙◌}
 use Rattle.std.proofs.lemmas.Bool.{and_parts, and_from}
 use Rattle.gauge.specs.declared.matrix.EdgeMatrix.{EdgeMatrix}
-use Rattle.gauge.specs.declared.edge.Edge.{Edge}
-use Rattle.gauge.specs.declared.edge.Edge.TheVariants.{Rise, Fall}
-use Rattle.gauge.specs.Matrix.{at, matrix, edge_ops}
+use Rattle.gauge.specs.Matrix.{edge_ops}
 use Rattle.gauge.specs.Semirings.{Ops, Laws}
 
 matrix_same : {S : Type 0} {x y : EdgeMatrix S} → x.rise_rise ≡ y.rise_rise → x.rise_fall ≡ y.rise_fall
     → x.fall_rise ≡ y.fall_rise → x.fall_fall ≡ y.fall_fall → x ≡ y
 matrix_same e f g h = λ i. record { rise_rise = e i; rise_fall = f i; fall_rise = g i; fall_fall = h i }
-
-pub matrix_of : {S : Type 0} {x : EdgeMatrix S} {f : Edge → Edge → S} → ((a b : Edge) → at x a b ≡ f a b) → x ≡ matrix f
-matrix_of e = matrix_same (e Rise Rise) (e Rise Fall) (e Fall Rise) (e Fall Fall)
 
 module _ {S : Type 0} {r : Ops S} (l : Laws r) where
   swapped : (a b c d : S) → r.plus (r.plus a b) (r.plus c d) ≡ r.plus (r.plus a c) (r.plus b d)

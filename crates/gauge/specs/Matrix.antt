@@ -20,10 +20,6 @@ matrix f = record { rise_rise = f Rise Rise; rise_fall = f Rise Fall; fall_rise 
 abbrev pub into : {S : Type 0} → Ops S → EdgeMatrix S → Edge → S
 into r x b = r.plus (at x Rise b) (at x Fall b)
 
--- the ways from an edge before to an edge after: by a rise and by a fall between the two matrices
-abbrev pub ways : {S : Type 0} → Ops S → EdgeMatrix S → EdgeMatrix S → Edge → Edge → S
-ways r x y a b = r.plus (r.times (at x a Rise) (at y Rise b)) (r.times (at x a Fall) (at y Fall b))
-
 -- one value where the edges are equal, another elsewhere
 abbrev pub diagonal : {S : Type 0} → S → S → Edge → Edge → S
 diagonal on off Rise Rise = on
@@ -36,7 +32,7 @@ edge_ops r = record {
   zero = matrix (λ a b. r.zero);
   one = matrix (diagonal r.one r.zero);
   plus = λ x y. matrix (λ a b. r.plus (at x a b) (at y a b));
-  times = λ x y. matrix (ways r x y);
+  times = λ x y. matrix (λ a b. r.plus (r.times (at x a Rise) (at y Rise b)) (r.times (at x a Fall) (at y Fall b)));
   same = λ x y. r.same (at x Rise Rise) (at y Rise Rise) && (r.same (at x Rise Fall) (at y Rise Fall)
       && (r.same (at x Fall Rise) (at y Fall Rise) && r.same (at x Fall Fall) (at y Fall Fall)));
 }

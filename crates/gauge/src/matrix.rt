@@ -1,5 +1,6 @@
 ghost use Rattle.std.specs.Prelude.{◌≡◌};
-ghost use Rattle.gauge.specs.Matrix.{edge_ops, at, into, ways};
+ghost use Rattle.gauge.specs.declared.edge.Edge.TheVariants.{Rise, Fall};
+ghost use Rattle.gauge.specs.Matrix.{edge_ops, at, into};
 ghost use Rattle.gauge.specs.Matrices.{edge_laws};
 
 use crate::edge::Edge;
@@ -18,7 +19,10 @@ impl<S> EdgeMatrix<S> {
     /// The matrix with these entries, by the edge before and the edge after.
     pub fn from_fn<F: Fn(Edge, Edge) -> S>(entry: F) -> EdgeMatrix<S>
         requires { F.IsAlwaysCallable entry }
-        ensures { (before after : Edge) → F.post entry before after (at result before after) }
+        ensures rise_rise { F.post entry Rise Rise result.rise_rise }
+        ensures rise_fall { F.post entry Rise Fall result.rise_fall }
+        ensures fall_rise { F.post entry Fall Rise result.fall_rise }
+        ensures fall_fall { F.post entry Fall Fall result.fall_fall }
     {
         EdgeMatrix {
             rise_rise: entry(Edge::Rise, Edge::Rise),
@@ -74,7 +78,15 @@ impl<S: Semiring> Semiring for EdgeMatrix<S> {
     }
 
     fn times(self, other: EdgeMatrix<S>) -> EdgeMatrix<S> {
-        EdgeMatrix::from_fn(|before, after| through(self, other, before, after))
+        EdgeMatrix::from_fn(|before, after| {
+            let by_rise = self
+                .entry(before, Edge::Rise)
+                .times(other.entry(Edge::Rise, after));
+            let by_fall = self
+                .entry(before, Edge::Fall)
+                .times(other.entry(Edge::Fall, after));
+            by_rise.plus(by_fall)
+        })
     }
 
     fn same(self, other: EdgeMatrix<S>) -> bool {
@@ -83,17 +95,4 @@ impl<S: Semiring> Semiring for EdgeMatrix<S> {
             && self.fall_rise.same(other.fall_rise)
             && self.fall_fall.same(other.fall_fall)
     }
-}
-
-/// The ways from an edge before to an edge after: by a rise and by a fall between the two matrices.
-fn through<S: Semiring>(x: EdgeMatrix<S>, y: EdgeMatrix<S>, before: Edge, after: Edge) -> S
-    ensures { result ≡ ways S.ops x y before after }
-{
-    let by_rise = x
-        .entry(before, Edge::Rise)
-        .times(y.entry(Edge::Rise, after));
-    let by_fall = x
-        .entry(before, Edge::Fall)
-        .times(y.entry(Edge::Fall, after));
-    by_rise.plus(by_fall)
 }

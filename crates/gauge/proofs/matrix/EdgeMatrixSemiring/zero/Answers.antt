@@ -1,6 +1,0 @@
-use Rattle.std.proofs.Common.{rules}
-use Rattle.gauge.specs.Matrices.{matrix_of}
-use Rattle.gauge.proofs.matrix.EdgeMatrixSemiring.zero.Goals as goal
-
-pub returns : goal.returns
-returns g c = matrix_of {f = λ a b. g.S.Semiring.ops.zero} (λ a b. let h = c.from_fn.ensures a b in search rules)
