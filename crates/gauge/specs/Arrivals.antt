@@ -24,6 +24,7 @@ alike None (Some b) = false
 alike (Some a) None = false
 alike (Some a) (Some b) = a.picoseconds == b.picoseconds
 
+-- an arrival in words
 abbrev pub text_of : Option Time → List ℕ
 text_of None = codes "NONE"
 text_of (Some a) = decimal a.picoseconds

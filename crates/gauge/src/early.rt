@@ -31,8 +31,8 @@ impl Rule for Earliest {
     }
 }
 
-/// Early's operations and delays are those of the rules.
-pub fn meets_the_rules()
+/// Early keeps the smaller of two times, and its value of a pair of delays is the early one.
+pub fn keeps_the_smaller()
     ensures ops { ⟦<Early as Semiring>⟧.ops ≡ early_ops }
     ensures delays { ⟦<Early as Gauge>⟧.delays ≡ early_delays }
 {}

@@ -31,8 +31,8 @@ impl Rule for Latest {
     }
 }
 
-/// Late's operations and delays are those of the rules.
-pub fn meets_the_rules()
+/// Late keeps the larger of two times, and its value of a pair of delays is the late one.
+pub fn keeps_the_larger()
     ensures ops { ⟦<Late as Semiring>⟧.ops ≡ late_ops }
     ensures delays { ⟦<Late as Gauge>⟧.delays ≡ late_delays }
 {}
