@@ -6,7 +6,6 @@ use gauge::early::Early;
 use gauge::edge::Edge;
 use gauge::gauges::Gauge;
 use gauge::late::Late;
-use gauge::time::Time;
 use network::network::Network;
 use opening::open::Opened;
 use std::io;
@@ -28,15 +27,13 @@ pub fn show_arrivals(
     count: &Tables<Count>,
 ) -> io::Result<()> {
     for signal in 0..network.size() {
-        for (edge, name) in [(Edge::Rise, "RISE"), (Edge::Fall, "FALL")] {
+        for edge in [Edge::Rise, Edge::Fall] {
             print!(rt; "ARRIVAL ")?;
             show_name(rt, netlist, network, signal)?;
-            print!(rt; " {name} LATE ")?;
-            show_time(rt, arrival(late, signal, edge).arrival)?;
-            print!(rt; " EARLY ")?;
-            show_time(rt, arrival(early, signal, edge).arrival)?;
+            let late = arrival(late, signal, edge);
+            let early = arrival(early, signal, edge);
             let paths = arrival(count, signal, edge).paths();
-            println!(rt; " COUNT {paths}")?;
+            println!(rt; " {edge} LATE {late} EARLY {early} COUNT {paths}")?;
         }
     }
     Ok(())
@@ -47,12 +44,5 @@ fn arrival<G: Gauge>(tables: &Tables<G>, signal: usize, edge: Edge) -> G {
     match tables.values.get(signal) {
         Some(value) => value.arrival(edge),
         None => G::zero(),
-    }
-}
-
-fn show_time(rt: &HostRuntime, arrival: Option<Time>) -> io::Result<()> {
-    match arrival {
-        Some(time) => print!(rt; "{}", time.picoseconds()),
-        None => print!(rt; "NONE"),
     }
 }

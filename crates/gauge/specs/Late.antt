@@ -1,17 +1,14 @@
 -- The gauge of the latest arrivals.
-use Rattle.std.specs.Prelude.{ℕ, Some, Option}
-use Rattle.gauge.specs.declared.late.Late.{Late}
-use Rattle.gauge.specs.declared.time.Time.{Time}
-use Rattle.gauge.specs.Arrivals.{arrivals}
-use Rattle.gauge.specs.Semirings.{Ops, carried}
-use Rattle.gauge.specs.Times.{time, larger}
+use Rattle.std.specs.Prelude.{ℕ}
+use Rattle.gauge.specs.declared.arrivals.Arrival.{Arrival}
+use Rattle.gauge.specs.declared.late.Latest.{Latest}
+use Rattle.gauge.specs.Arrivals.{arrival_ops, arrival_delays}
+use Rattle.gauge.specs.Semirings.{Ops}
+use Rattle.gauge.specs.Times.{larger}
 
-abbrev pub late : Option Time → Late
-late o = record { arrival = o }
-
-abbrev pub late_ops : Ops Late
-late_ops = carried late (λ x. x.arrival) (arrivals larger)
+abbrev pub late_ops : Ops (Arrival Latest)
+late_ops = arrival_ops larger
 
 -- the value of a pair of delays is its late one
-abbrev pub late_delays : ℕ → ℕ → Late
-late_delays l e = late (Some (time l))
+abbrev pub late_delays : ℕ → ℕ → Arrival Latest
+late_delays = arrival_delays (λ l e. l)

@@ -1,5 +1,6 @@
 pub mod Semirings
 pub mod Times
+pub mod Edges
 pub mod Arrivals
 pub mod Late
 pub mod Early

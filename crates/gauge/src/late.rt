@@ -1,60 +1,38 @@
-ghost use Rattle.gauge.specs.Late.{late, late_ops, late_delays};
-ghost use Rattle.std.specs.Prelude.{refl};
-ghost use Rattle.gauge.specs.Arrivals.{arrivals};
+ghost use Rattle.std.specs.Prelude.{◌≡◌};
+ghost use Rattle.gauge.specs.Late.{late_ops, late_delays};
 ghost use Rattle.gauge.specs.Times.{larger};
-ghost use Rattle.gauge.specs.Choosing.{arrivals_laws, arrivals_select};
-ghost use Rattle.gauge.specs.Carried.{carried_laws, carried_selects};
 ghost use Rattle.gauge.specs.TimesLemmas.{larger_keeps};
 
-use crate::arrivals::*;
-use crate::gauges::{Gauge, Selective};
+use crate::arrivals::{Arrival, Rule};
+use crate::gauges::Gauge;
 use crate::semiring::Semiring;
 use crate::time::Time;
 
-/// The latest arrival, or none.
+/// Keeps the larger time, and takes the late delay.
 #[derive(Clone, Copy)]
-pub struct Late {
-    pub arrival: Option<Time>,
-}
+pub struct Latest;
 
-impl Semiring for Late {
-    ghost ops = { late_ops };
+/// The latest arrival, or none.
+pub type Late = Arrival<Latest>;
 
-    ghost laws = { carried_laws late (λ x. x.arrival) (arrivals larger) (λ x. refl) (λ v. refl) (arrivals_laws larger_keeps) };
+impl Rule for Latest {
+    ghost keep = { larger };
 
-    fn zero() -> Late {
-        Late { arrival: None }
+    ghost pick = { λ late early. late };
+
+    ghost keeps = { larger_keeps };
+
+    fn keep(a: Time, b: Time) -> Time {
+        a.max(b)
     }
 
-    fn one() -> Late {
-        Late { arrival: at(0) }
-    }
-
-    fn plus(self, other: Late) -> Late {
-        Late {
-            arrival: latest(self.arrival, other.arrival),
-        }
-    }
-
-    fn times(self, other: Late) -> Late {
-        Late {
-            arrival: delayed(self.arrival, other.arrival),
-        }
-    }
-
-    fn same(self, other: Late) -> bool {
-        alike(self.arrival, other.arrival)
+    fn pick(late: u32, _early: u32) -> u32 {
+        late
     }
 }
 
-impl Gauge for Late {
-    ghost delays = { late_delays };
-
-    fn from_delays(late: u32, _early: u32) -> Late {
-        Late { arrival: at(late) }
-    }
-}
-
-impl Selective for Late {
-    ghost selects = { carried_selects late (λ x. x.arrival) (arrivals larger) (λ x. refl) (λ v. refl) (arrivals_select larger_keeps) };
-}
+/// Late keeps the larger of two times, and its value of a pair of delays is the late one.
+pub fn keeps_the_larger()
+    ensures ops { ⟦<Late as Semiring>⟧.ops ≡ late_ops }
+    ensures delays { ⟦<Late as Gauge>⟧.delays ≡ late_delays }
+{}

@@ -1,4 +1,5 @@
 ghost use Rattle.std.specs.Prelude.{◌≡◌};
+ghost use Rattle.gauge.specs.declared.edge.Edge.TheVariants.{Rise, Fall};
 ghost use Rattle.gauge.specs.Matrix.{edge_ops, at, into};
 ghost use Rattle.gauge.specs.Matrices.{edge_laws};
 
@@ -12,6 +13,24 @@ pub struct EdgeMatrix<S> {
     pub rise_fall: S,
     pub fall_rise: S,
     pub fall_fall: S,
+}
+
+impl<S> EdgeMatrix<S> {
+    /// The matrix with these entries, by the edge before and the edge after.
+    pub fn from_fn<F: Fn(Edge, Edge) -> S>(entry: F) -> EdgeMatrix<S>
+        requires { F.IsAlwaysCallable entry }
+        ensures rise_rise { F.post entry Rise Rise result.rise_rise }
+        ensures rise_fall { F.post entry Rise Fall result.rise_fall }
+        ensures fall_rise { F.post entry Fall Rise result.fall_rise }
+        ensures fall_fall { F.post entry Fall Fall result.fall_fall }
+    {
+        EdgeMatrix {
+            rise_rise: entry(Edge::Rise, Edge::Rise),
+            rise_fall: entry(Edge::Rise, Edge::Fall),
+            fall_rise: entry(Edge::Fall, Edge::Rise),
+            fall_fall: entry(Edge::Fall, Edge::Fall),
+        }
+    }
 }
 
 impl<S: Copy> EdgeMatrix<S> {
@@ -43,44 +62,31 @@ impl<S: Semiring> Semiring for EdgeMatrix<S> {
     ghost laws = { edge_laws S.Semiring.laws };
 
     fn zero() -> EdgeMatrix<S> {
-        let none = S::zero();
-        EdgeMatrix {
-            rise_rise: none,
-            rise_fall: none,
-            fall_rise: none,
-            fall_fall: none,
-        }
+        EdgeMatrix::from_fn(|_, _| S::zero())
     }
 
     fn one() -> EdgeMatrix<S> {
         let on = S::one();
         let off = S::zero();
-        EdgeMatrix {
-            rise_rise: on,
-            rise_fall: off,
-            fall_rise: off,
-            fall_fall: on,
-        }
+        EdgeMatrix::from_fn(|before, after| if before == after { on } else { off })
     }
 
     fn plus(self, other: EdgeMatrix<S>) -> EdgeMatrix<S> {
-        EdgeMatrix {
-            rise_rise: self.rise_rise.plus(other.rise_rise),
-            rise_fall: self.rise_fall.plus(other.rise_fall),
-            fall_rise: self.fall_rise.plus(other.fall_rise),
-            fall_fall: self.fall_fall.plus(other.fall_fall),
-        }
+        EdgeMatrix::from_fn(|before, after| {
+            self.entry(before, after).plus(other.entry(before, after))
+        })
     }
 
     fn times(self, other: EdgeMatrix<S>) -> EdgeMatrix<S> {
-        let x = self;
-        let y = other;
-        EdgeMatrix {
-            rise_rise: through(x.rise_rise, y.rise_rise, x.rise_fall, y.fall_rise),
-            rise_fall: through(x.rise_rise, y.rise_fall, x.rise_fall, y.fall_fall),
-            fall_rise: through(x.fall_rise, y.rise_rise, x.fall_fall, y.fall_rise),
-            fall_fall: through(x.fall_rise, y.rise_fall, x.fall_fall, y.fall_fall),
-        }
+        EdgeMatrix::from_fn(|before, after| {
+            let by_rise = self
+                .entry(before, Edge::Rise)
+                .times(other.entry(Edge::Rise, after));
+            let by_fall = self
+                .entry(before, Edge::Fall)
+                .times(other.entry(Edge::Fall, after));
+            by_rise.plus(by_fall)
+        })
     }
 
     fn same(self, other: EdgeMatrix<S>) -> bool {
@@ -89,11 +95,4 @@ impl<S: Semiring> Semiring for EdgeMatrix<S> {
             && self.fall_rise.same(other.fall_rise)
             && self.fall_fall.same(other.fall_fall)
     }
-}
-
-/// The two ways between an edge before and an edge after: by a rise and by a fall.
-fn through<S: Semiring>(to_rise: S, from_rise: S, to_fall: S, from_fall: S) -> S
-    ensures { result ≡ S.ops.plus (S.ops.times to_rise from_rise) (S.ops.times to_fall from_fall) }
-{
-    to_rise.times(from_rise).plus(to_fall.times(from_fall))
 }

@@ -17,6 +17,7 @@ pub trait Semiring: Copy {
     fn times(self, other: Self) -> Self
         ensures { result ≡ ops.times self other };
 
+    // No `==` of a supertrait `Eq`: each impl would then prove one law more, that its `==` answers as `ops.same`.
     fn same(self, other: Self) -> bool
         ensures { result ≡ ops.same self other };
 

@@ -1,49 +1,44 @@
-ghost use Rattle.std.specs.Prelude.{◌≡◌, ◌+◌, ◌^◌, ◌<◌, min, max};
+ghost use Rattle.std.specs.Prelude.{◌≡◌, ◌+◌, ◌^◌, ◌<◌, Some, min, max};
+ghost use Rattle.std.specs.Fmt.{decimal};
+
+use std::fmt;
 
 /// A time in whole picoseconds, from 0 to 4,294,967,295.
-#[derive(Clone, Copy)]
+#[derive(Clone, Copy, PartialEq, Eq, PartialOrd, Ord, Debug)]
 pub struct Time {
     picoseconds: u32,
     ghost fits: { picoseconds < 2 ^ 32 },
 }
 
 impl Time {
-    pub fn new(picoseconds: u32) -> Time
-        ensures { result.picoseconds ≡ picoseconds }
-    {
-        Time { picoseconds }
-    }
-
-    pub fn picoseconds(self) -> u32
-        ensures { result ≡ self.picoseconds }
-    {
-        self.picoseconds
-    }
-
-    pub fn max(self, other: Time) -> Time
-        ensures { result.picoseconds ≡ max self.picoseconds other.picoseconds }
-    {
-        if self.picoseconds < other.picoseconds {
-            other
-        } else {
-            self
-        }
-    }
-
-    pub fn min(self, other: Time) -> Time
-        ensures { result.picoseconds ≡ min self.picoseconds other.picoseconds }
-    {
-        if other.picoseconds < self.picoseconds {
-            other
-        } else {
-            self
-        }
-    }
-
     /// The sum, stopped at the largest time.
     pub fn saturating_add(self, other: Time) -> Time
         ensures { result.picoseconds ≡ min (self.picoseconds + other.picoseconds) 4294967295 }
     {
-        Time::new(self.picoseconds.saturating_add(other.picoseconds))
+        Time::from(self.picoseconds.saturating_add(other.picoseconds))
+    }
+}
+
+impl From<u32> for Time {
+    ghost from_gives = { λ n t. t.picoseconds ≡ n };
+
+    fn from(picoseconds: u32) -> Time {
+        Time { picoseconds }
+    }
+}
+
+impl From<Time> for u32 {
+    ghost from_gives = { λ t n. n ≡ t.picoseconds };
+
+    fn from(time: Time) -> u32 {
+        time.picoseconds
+    }
+}
+
+impl fmt::Display for Time {
+    ghost output = { λ t. Some (decimal t.picoseconds) };
+
+    fn fmt<W: fmt::Write>(&self, f: &mut fmt::Formatter<W>) -> fmt::Result {
+        write!(f, "{}", self.picoseconds)
     }
 }

@@ -15,10 +15,7 @@ mod tests {
     use weights::weight::{pin_weight, source_start};
 
     fn shown(arrival: Option<Time>) -> Option<u32> {
-        match arrival {
-            Some(time) => Some(time.picoseconds()),
-            None => None,
-        }
+        arrival.map(u32::from)
     }
 
     fn late(time: u32) -> Late {

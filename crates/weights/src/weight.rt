@@ -6,6 +6,7 @@ use gauge::gauges::Gauge;
 use gauge::matrix::EdgeMatrix;
 
 /// The weight of a pin that raises or lowers its gate, or both or neither, with these delays.
+// Two flags, and no enum: `Sense` of crate network has them as one, and a caller with flags would need that crate to name it.
 pub fn pin_weight<G: Gauge>(raises: bool, lowers: bool, times: Times) -> EdgeMatrix<G>
     ensures { result ≡ weight_of G.Semiring.ops G.Gauge.delays raises lowers times }
 {

@@ -52,7 +52,7 @@ impl Semiring for Count {
     }
 
     fn same(self, other: Count) -> bool {
-        self.paths == other.paths
+        self == other
     }
 }
 

@@ -1,8 +1,0 @@
-use Rattle.std.proofs.Common.{Some, sym, ap, ◌∙◌, ap₂}
-use Rattle.gauge.specs.Arrivals.{chosen}
-use Rattle.gauge.specs.Times.{larger}
-use Rattle.gauge.specs.TimesLemmas.{time_same}
-use Rattle.gauge.proofs.arrivals.latest.Goals as goal
-
-pub returns : goal.returns
-returns c = ap Some (time_same c.max.ensures) ∙ sym (ap₂ (chosen larger) c.in-Some.is c.in-Some-b.is)

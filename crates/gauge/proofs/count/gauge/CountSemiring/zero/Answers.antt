@@ -1,6 +1,0 @@
-use Rattle.std.proofs.Common.{refl}
-use Rattle.gauge.specs.Counts.{count_same}
-use Rattle.gauge.proofs.count.gauge.CountSemiring.zero.Goals as goal
-
-pub returns : goal.returns
-returns c = count_same refl
