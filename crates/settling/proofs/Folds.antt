@@ -1,13 +1,18 @@
 -- Laws of `any`, `gathered` and `count_below`.
 use Rattle.std.proofs.Common.{◌≡◌, ℕ, zero, suc, ◌+◌, ◌<◌, ◌≤◌, Bool, true, false, cond, ◌&&◌, ◌||◌, ◌≢◌, List, [], ◌∷◌, map, length, get_or, drop, sym, refl, ap, ◌∙◌, ap₂, ⊎_elim, arith}
-use Rattle.std.specs.List.{AllByRecursion}
+use Rattle.std.specs.List.{AllByRecursion, list_any, range_with_len}
 use Rattle.std.proofs.lemmas.List.{at_drop_more}
+use Rattle.std.proofs.lemmas.List.FromFn.{fill_by_all}
 use Rattle.std.proofs.lemmas.Bool.{cases_eq, cond-true, cond-false, or_from}
 use Rattle.gauge.specs.Semirings.{Ops}
 use Rattle.paths.specs.Sums.{brought, gathered}
 use Rattle.paths.specs.Edits.{any, count_below}
 use Rattle.settling.specs.declared.tap.Tap.{Tap}
 use Rattle.settling.specs.Tables.{wire_of}
+
+any_is : {A : Type 0} (test : A → Bool) (xs : List A) → list_any test xs ≡ any test xs
+any_is test [] = refl
+any_is test (x ∷ xs) = ap (λ b. test x || b) (any_is test xs)
 
 module _ {A : Type 0} where
   pub any_none : (test : A → Bool) (xs : List A) → AllByRecursion (λ x. test x ≡ false) xs → any test xs ≡ false
@@ -17,6 +22,12 @@ module _ {A : Type 0} where
   pub any_map : {B : Type 0} (f : B → A) (test : A → Bool) (xs : List B) → any test (map f xs) ≡ any (λ x. test (f x)) xs
   any_map f test [] = refl
   any_map f test (x ∷ xs) = ap (λ b. test (f x) || b) (any_map f test xs)
+
+  -- a test of the elements by their places
+  pub any_at : (test : A → Bool) (xs : List A) (n : ℕ) (d : A) → n ≡ length xs → list_any (λ k. test (get_or xs k d)) (range_with_len 0 n) ≡ any test xs
+  any_at test xs n d e =
+      let f = λ (k : ℕ). get_or xs k d in
+      any_is (λ k. test (f k)) (range_with_len 0 n) ∙ sym (any_map f test (range_with_len 0 n)) ∙ ap (any test) (sym (fill_by_all f xs n d (sym e) (λ k l. refl)))
 
   -- a test that passes more, where b
   pub any_more : (b : Bool) (test more all : A → Bool) → ((x : A) → all x ≡ ((b && more x) || test x)) → (xs : List A) → any all xs ≡ ((b && any more xs) || any test xs)
