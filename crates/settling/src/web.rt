@@ -3,6 +3,7 @@ ghost use Rattle.std.specs.Prelude.{◌≡◌, ◌<◌, ◌≤◌, length, drop}
 ghost use Rattle.std.proofs.Props.{props};
 ghost use Rattle.paths.specs.Sums.{brought, worked, AreSums};
 ghost use Rattle.waiting.specs.Turns.{Empty};
+ghost use Rattle.settling.specs.Shapes.{tap_at};
 ghost use Rattle.settling.specs.Tables.{cells, wire_of, web_on, WebFits};
 
 use crate::tap::Tap;
@@ -20,12 +21,14 @@ pub struct Web<'a, V, N: Wiring> {
 }
 
 impl<V: Semiring, N: Wiring> Web<'_, V, N> {
-    // What a tap brings: the value where it comes from ⊗ its weight.
-    fn bring(&self, values: &[V], tap: Tap) -> V
-        requires from { tap.from < length values.now }
-        requires cell { tap.cell < length self.now.weights.now }
-        ensures { result ≡ brought V.ops (cells V.ops values.now) (wire_of V.ops self.now.weights.now tap) }
+    // What the tap in a place of a signal's list brings: the value where it comes from ⊗ its weight.
+    fn bring(&self, values: &[V], signal: usize, place: usize) -> V
+        requires room { (N.shape self.now.wiring.now).size ≤ length values.now }
+        requires signal { signal < (N.shape self.now.wiring.now).size }
+        requires place { place < length ((N.shape self.now.wiring.now).taps signal) }
+        ensures { result ≡ brought V.ops (cells V.ops values.now) (wire_of V.ops self.now.weights.now (tap_at (N.shape self.now.wiring.now) signal place)) }
     {
+        let tap = self.wiring.tap(signal, place);
         values[tap.from].times(self.weights[tap.cell])
     }
 
@@ -35,11 +38,9 @@ impl<V: Semiring, N: Wiring> Web<'_, V, N> {
         requires here { signal < (N.shape self.now.wiring.now).size }
         ensures { result ≡ worked V.ops (web_on V.ops (N.shape self.now.wiring.now) self.now.starts.now self.now.weights.now) (cells V.ops values.now) signal }
     {
-        let mut sum = self.starts[signal];
-        for place in 0..self.wiring.tap_count(signal) {
-            sum = sum.plus(self.bring(values, self.wiring.tap(signal, place)));
-        }
-        sum
+        (0..self.wiring.tap_count(signal)).fold(self.starts[signal], |sum, place| {
+            sum.plus(self.bring(values, signal, place))
+        })
     }
 
     /// Works every signal once, by turn, so that each value is its path sum; empties the list, and answers the number of signals.

@@ -1,40 +1,30 @@
-use Rattle.std.proofs.Common.{◌<◌, List, map, length, sym, ap, ◌∙◌, arith}
-use Rattle.std.proofs.lemmas.List.{get_or_read, at_drop_all}
-use Rattle.paths.specs.Sums.{gathered}
+use Rattle.std.proofs.Common.{◌≡◌, ℕ, ◌<◌, length, get_or, rules, fold, refl, ap, ◌∙◌, arith}
+use Rattle.std.specs.List.{range_with_len}
+use Rattle.std.proofs.iter.Yields.{nat_range_steps}
+use Rattle.std.proofs.lemmas.Fn.{fold_over}
+use Rattle.std.proofs.lemmas.Iterator.{YieldsList-from_range}
+use Rattle.std.proofs.lemmas.List.{get_or_default}
+use Rattle.std.proofs.lemmas.List.Sums.{fold_push}
+use Rattle.paths.specs.Sums.{brought, gathered}
 use Rattle.paths.proofs.Sums.{gathers}
-use Rattle.settling.specs.declared.tap.Tap.{Tap}
+use Rattle.settling.specs.Shapes.{tap_at}
 use Rattle.settling.specs.Tables.{cells, wire_of, web_on}
-use Rattle.settling.proofs.Folds.{gathered_drop}
-use Rattle.settling.proofs.Shapes.{tap_fits}
+use Rattle.settling.proofs.Folds.{gathered_at}
 use Rattle.settling.proofs.web.Web.work.Goals as goal
-
-pub loop-place-init : goal.loop-place-init
-loop-place-init g c =
-    let r = g.V.Semiring.ops in
-    let starts = c.args.self.now.starts.now in
-    let s = c.args.signal in
-    let web = web_on r (g.N.Wiring.shape c.args.self.now.wiring.now) starts c.args.self.now.weights.now in
-    let v = cells r c.args.values.now in
-    let room : s < length starts = omega (arith, c.requires.here, c.args.self.now.fit.starts_long) in
-    ap (λ y. gathered r v y (web.into s)) (sym c.index-self-signal.is ∙ get_or_read starts s _ room c.index-self-signal.is r.zero) ∙ gathers r g.met.V.Semiring.laws web v s
-
-pub bring-requires : goal.bring-requires
-bring-requires g c =
-    let fits = tap_fits (g.N.Wiring.sound _) c.args.self.now.fit c.args.values.now c.requires.room c.args.signal c.loop-place.place c.tap.result c.requires.here (omega (arith, c.tap_count-place-end.ensures)) c.tap.ensures in
-    record { from = fits.0; cell = fits.1 }
-
-pub loop-place-preserved : goal.loop-place-preserved
-loop-place-preserved g c =
-    let r = g.V.Semiring.ops in
-    let taps = (g.N.Wiring.shape c.args.self.now.wiring.now).taps c.args.signal in
-    let more = gathered_drop r (cells r c.args.values.now) c.args.self.now.weights.now c.loop-place.sum taps c.loop-place.place c.tap.result _
-    (omega (arith, c.tap_count-place-end.ensures)) c.tap.ensures in
-    cc
 
 pub returns : goal.returns
 returns g c =
     let r = g.V.Semiring.ops in
-    let taps = (g.N.Wiring.shape c.args.self.now.wiring.now).taps c.args.signal in
-    let all = at_drop_all (λ (xs : List Tap). gathered r (cells r c.args.values.now) c.loop-place.sum (map (wire_of r c.args.self.now.weights.now) xs)) taps c.loop-place.place
-    (omega (arith, c.tap_count-place-end.ensures)) in
-    cc
+    let web = c.args.self.now in
+    let s = c.args.signal in
+    let n = c.tap_count.result in
+    let v = cells r c.args.values.now in
+    let shape = g.N.Wiring.shape web.wiring.now in
+    let is = web_on r shape web.starts.now web.weights.now in
+    let more : g.row.V.Denot → ℕ → g.row.V.Denot = λ y k. r.plus y (brought r v (wire_of r web.weights.now (tap_at shape s k))) in
+    let start = get_or web.starts.now s c.index-self-signal.result in
+    let room : s < length web.starts.now = omega (arith, web.fit.starts_long, c.requires.here) in
+    fold_over nat_range_steps (λ k. k) _ (λ ks y. y ≡ fold more start ks) _ (λ ks y k z f' was ran. let push = fold_push more start ks k in search rules)
+    (record { start = 0; end = n }) (range_with_len 0 n) start c.fold.result (YieldsList-from_range 0 n n refl (omega arith)).runs refl c.fold.ensures.ran
+    ∙ gathered_at r v web.weights.now start (shape.taps s) n _ c.tap_count.ensures
+    ∙ ap (λ y. gathered r v y (is.into s)) (get_or_default web.starts.now s _ r.zero room) ∙ gathers r g.met.V.Semiring.laws is v s
