@@ -27,12 +27,6 @@ pub record WebFits {V : Type 0} (shape : Shape) (starts weights : List V) : Type
   pub starts_long : shape.size ≤ length starts
   pub weights_long : (s : ℕ) → s < shape.size → AllByRecursion (λ x. x.cell < length weights) (shape.taps s)
 
--- the tables are long enough for the shape
-pub record TablesFit {V : Type 0} (shape : Shape) (starts weights values : List V) : Type 0 where
-  pub starts_long : shape.size ≤ length starts
-  pub weights_long : (s : ℕ) → s < shape.size → AllByRecursion (λ x. x.cell < length weights) (shape.taps s)
-  pub values_long : shape.size ≤ length values
-
 -- the web of a sound shape has ranks, whatever the tables hold
 abbrev pub Ranks : Type 0 → Type 0
 Ranks V = (r : Ops V) (shape : Shape) → Sound shape → (starts weights : List V) → Rankable (web_on r shape starts weights)
