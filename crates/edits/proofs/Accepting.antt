@@ -7,7 +7,7 @@ use Rattle.gauge.specs.declared.matrix.EdgeMatrix.{EdgeMatrix}
 use Rattle.paths.specs.Edits.{only, Settled, edit_count}
 use Rattle.network.specs.Net.{signals as signals_of, size, is_source_of}
 use Rattle.network.specs.declared.network.Network.{Network}
-use Rattle.settling.specs.Tables.{cells, web_on, TablesFit}
+use Rattle.settling.specs.Tables.{cells, web_on, WebFits}
 use Rattle.fields.specs.declared.edit.Edit.{Edit}
 use Rattle.fields.specs.declared.edit.Edit.TheVariants.{SetDelay, SetStart, Rewire, Cut}
 use Rattle.delays.specs.Outlines.{Pin, outline_of, has}
@@ -66,11 +66,11 @@ module _ {G : Type 0} (r : Ops G) (delays : ℕ → ℕ → G) (x y : View (Edge
     as_many = ap length wrote.signals ∙ signals_long e (signals_of x.network)
 
     -- the tables still fit
-    pub still_fits : TablesFit (forwards y.network) y.starts y.weights x.values
+    pub still_fits : WebFits (forwards y.network) y.starts y.weights
     still_fits =
         let starts = ap length wrote.starts_are ∙ starts_long r delays e x.starts in
         let weights = ap length wrote.weights_are ∙ weights_long r delays (signals_of x.network) e x.weights in
-        fits y.network y.starts y.weights x.values (omega (arith, as_many, starts, ok.starts)) (omega (arith, as_many, weights, ok.weights)) (omega (arith, as_many, ok.values))
+        fits y.network y.starts y.weights (omega (arith, as_many, starts, ok.starts)) (omega (arith, as_many, weights, ok.weights))
 
     pub edited_still_there : edited_by e < size y.network
     edited_still_there = omega (arith, as_many, edited_there x.network e ok.parts)

@@ -12,7 +12,7 @@ use gauge::gauges::Gauge;
 use gauge::matrix::EdgeMatrix;
 use opening::board::Board;
 use opening::forwards::Forwards;
-use settling::settle::settle;
+use settling::web::Web;
 use waiting::list::WaitingList;
 
 /// Makes the edit of a field whose tag stands at a place, and answers how many signals were worked. The strip is left with marks.
@@ -37,5 +37,10 @@ pub fn apply_at<G: Gauge, W: WaitingList>(
     } = board;
     write(network, starts, weights, strip, edit, at)?;
     let edited = edited_signal(edit);
-    Ok(settle(&Forwards { network }, starts, weights, values, list, edited))
+    let web = Web {
+        wiring: &Forwards { network },
+        starts,
+        weights,
+    };
+    Ok(web.settle(values, list, edited))
 }

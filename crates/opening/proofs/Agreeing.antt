@@ -10,7 +10,7 @@ use Rattle.paths.specs.Web.{Agree}
 use Rattle.paths.proofs.Sums.{agree_in_sums}
 use Rattle.network.specs.Net.{size, fanin, from}
 use Rattle.network.specs.declared.network.Network.{Network}
-use Rattle.settling.specs.Tables.{cells, wire_of, web_on, TablesFit}
+use Rattle.settling.specs.Tables.{cells, wire_of, web_on, WebFits}
 use Rattle.settling.proofs.Shapes.{ranks}
 use Rattle.delays.specs.Tables.{pin_times}
 use Rattle.delays.proofs.Marking.{small}
@@ -29,12 +29,10 @@ map_map f h [] = refl
 map_map f h (x ∷ xs) = ap (λ ys. f (h x) ∷ ys) (map_map f h xs)
 
 -- tables that are long enough
-pub fits : {V : Type 0} (net : Network) (starts weights values : List V) → size net ≤ length starts → 4 * size net ≤ length weights → size net ≤ length values
-    → TablesFit (forwards net) starts weights values
-fits net starts weights values s w v = record {
+pub fits : {V : Type 0} (net : Network) (starts weights : List V) → size net ≤ length starts → 4 * size net ≤ length weights → WebFits (forwards net) starts weights
+fits net starts weights s w = record {
   starts_long = s;
   weights_long = λ u h. all_counted _ (tap_of net u) (fanin net u) (λ k l. omega (arith, (small net).pins u));
-  values_long = v;
 }
 
 module _ {G : Type 0} (r : Ops G) (delays : ℕ → ℕ → G) (net : Network) (file : List ℕ) (starts weights : List (EdgeMatrix G)) where

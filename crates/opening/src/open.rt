@@ -12,7 +12,7 @@ use delays::faults::DelayFault;
 use fields::entry::Clock;
 use gauge::gauges::Gauge;
 use gauge::matrix::EdgeMatrix;
-use settling::work::work_all;
+use settling::web::Web;
 use waiting::list::WaitingList;
 
 /// The delay table's clock, and the number of signals.
@@ -56,6 +56,11 @@ pub fn open<G: Gauge, W: WaitingList>(
     } = board;
     let clock = check(network, file)?;
     fill(network, file, starts, weights);
-    let count = work_all(&Forwards { network }, starts, weights, values, list);
+    let web = Web {
+        wiring: &Forwards { network },
+        starts,
+        weights,
+    };
+    let count = web.work_all(values, list);
     Ok(Opened { clock, count })
 }

@@ -1,13 +1,19 @@
 -- Laws of `any`, `gathered` and `count_below`.
-use Rattle.std.proofs.Common.{◌≡◌, ℕ, zero, suc, ◌+◌, ◌<◌, ◌≤◌, Bool, true, false, cond, ◌&&◌, ◌||◌, ◌≢◌, List, [], ◌∷◌, map, length, get_or, drop, sym, refl, ap, ◌∙◌, ap₂, ⊎_elim, arith}
-use Rattle.std.specs.List.{AllByRecursion}
-use Rattle.std.proofs.lemmas.List.{at_drop_more}
+use Rattle.std.proofs.Common.{◌≡◌, ℕ, zero, suc, ◌+◌, ◌<◌, ◌≤◌, Bool, true, false, cond, ◌&&◌, ◌||◌, ◌≢◌, List, [], ◌∷◌, map, fold, length, get_or, sym, refl, ap, ◌∙◌, ap₂, ⊎_elim, arith}
+use Rattle.std.specs.List.{AllByRecursion, list_any, range_with_len}
+use Rattle.std.proofs.lemmas.List.Folds.{fold-map}
+use Rattle.std.proofs.lemmas.List.FromFn.{fill_by_all}
 use Rattle.std.proofs.lemmas.Bool.{cases_eq, cond-true, cond-false, or_from}
 use Rattle.gauge.specs.Semirings.{Ops}
+use Rattle.paths.specs.Web.{Incoming}
 use Rattle.paths.specs.Sums.{brought, gathered}
 use Rattle.paths.specs.Edits.{any, count_below}
 use Rattle.settling.specs.declared.tap.Tap.{Tap}
 use Rattle.settling.specs.Tables.{wire_of}
+
+any_is : {A : Type 0} (test : A → Bool) (xs : List A) → list_any test xs ≡ any test xs
+any_is test [] = refl
+any_is test (x ∷ xs) = ap (λ b. test x || b) (any_is test xs)
 
 module _ {A : Type 0} where
   pub any_none : (test : A → Bool) (xs : List A) → AllByRecursion (λ x. test x ≡ false) xs → any test xs ≡ false
@@ -18,17 +24,34 @@ module _ {A : Type 0} where
   any_map f test [] = refl
   any_map f test (x ∷ xs) = ap (λ b. test (f x) || b) (any_map f test xs)
 
+  -- a test of the elements by their places
+  pub any_at : (test : A → Bool) (xs : List A) (n : ℕ) (d : A) → n ≡ length xs → list_any (λ k. test (get_or xs k d)) (range_with_len 0 n) ≡ any test xs
+  any_at test xs n d e =
+      let f = λ (k : ℕ). get_or xs k d in
+      any_is (λ k. test (f k)) (range_with_len 0 n) ∙ sym (any_map f test (range_with_len 0 n)) ∙ ap (any test) (sym (fill_by_all f xs n d (sym e) (λ k l. refl)))
+
   -- a test that passes more, where b
   pub any_more : (b : Bool) (test more all : A → Bool) → ((x : A) → all x ≡ ((b && more x) || test x)) → (xs : List A) → any all xs ≡ ((b && any more xs) || any test xs)
   any_more b test more all h [] = grind arith
   any_more b test more all h (x ∷ xs) = let here = h x in let rest = any_more b test more all h xs in grind arith
 
--- one tap more
-pub gathered_drop : {V : Type 0} (r : Ops V) (v : ℕ → V) (weights : List V) (sum : V) (taps : List Tap) (k : ℕ) (x d : Tap) → k < length taps → x ≡ get_or taps k d
-    → gathered r v sum (map (wire_of r weights) (drop k taps)) ≡ gathered r v (r.plus sum (brought r v (wire_of r weights x))) (map (wire_of r weights) (drop (k + 1) taps))
-gathered_drop r v weights sum taps k x d there e =
-    at_drop_more (λ xs. gathered r v sum (map (wire_of r weights) xs)) taps k d there
-    ∙ ap (λ y. gathered r v (r.plus sum (brought r v (wire_of r weights y))) (map (wire_of r weights) (drop (k + 1) taps))) (sym e)
+module _ {V : Type 0} (r : Ops V) (v : ℕ → V) where
+  abbrev add : V → Incoming V → V
+  add y x = r.plus y (brought r v x)
+
+  gathered_is : (y : V) (xs : List (Incoming V)) → gathered r v y xs ≡ fold add y xs
+  gathered_is y [] = refl
+  gathered_is y (x ∷ xs) = gathered_is (add y x) xs
+
+  -- what taps bring, by their places
+  pub gathered_at : (weights : List V) (y : V) (taps : List Tap) (n : ℕ) (d : Tap) → n ≡ length taps
+      → fold (λ y k. add y (wire_of r weights (get_or taps k d))) y (range_with_len 0 n) ≡ gathered r v y (map (wire_of r weights) taps)
+  gathered_at weights y taps n d e =
+      let wire = wire_of r weights in
+      let more : V → Tap → V = λ y x. add y (wire x) in
+      let f = λ (k : ℕ). get_or taps k d in
+      sym (fold-map more f y (range_with_len 0 n)) ∙ ap (fold more y) (sym (fill_by_all f taps n d (sym e) (λ k l. refl)))
+      ∙ sym (fold-map add wire y taps) ∙ sym (gathered_is y (map wire taps))
 
 pub count_le : (n : ℕ) (test : ℕ → Bool) → count_below n test ≤ n
 count_le zero test = omega arith

@@ -1,15 +1,12 @@
 -- Sound shapes: their turns, their taps and their webs.
-use Rattle.std.proofs.Common.{◌≡◌, ℕ, ◌+◌, ◌<◌, ◌≤◌, Bool, true, false, ◌&&◌, ◌||◌, eqb, ltb, ◌≢◌, List, length, drop, sym, ap, ◌∙◌, ⊎_elim, arith}
-use Rattle.std.proofs.ByRecursion.{All-get_or, All-map}
-use Rattle.std.proofs.lemmas.List.{at_drop_more, at_drop_all}
-use Rattle.std.proofs.lemmas.Bool.{cases_lt, eq-eqb, ne_eqb, or_left}
+use Rattle.std.proofs.Common.{◌≡◌, ℕ, ◌+◌, ◌<◌, ◌≤◌, true, false, ◌&&◌, ◌||◌, eqb, ltb, List, sym, ap, ◌∙◌, ⊎_elim, arith}
+use Rattle.std.proofs.ByRecursion.{All-map}
+use Rattle.std.proofs.lemmas.Bool.{cases_lt}
 use Rattle.std.proofs.lemmas.Bool.Decides.{nat_tests}
 use Rattle.gauge.specs.Semirings.{Ops}
 use Rattle.paths.specs.Web.{Ranked}
-use Rattle.paths.specs.Edits.{any}
-use Rattle.settling.specs.declared.tap.Tap.{Tap}
-use Rattle.settling.specs.Shapes.{Shape, Sound, tap_at, feeds, FirstFed, NoneFed}
-use Rattle.settling.specs.Tables.{wire_of, web_on, TablesFit, Ranks}
+use Rattle.settling.specs.Shapes.{Shape, Sound, feeds, FirstFed, NoneFed}
+use Rattle.settling.specs.Tables.{wire_of, web_on, Ranks}
 
 pub ranked : {V : Type 0} (r : Ops V) {shape : Shape} → Sound shape → (starts weights : List V) → Ranked (web_on r shape starts weights) shape.turn
 ranked r {shape} sound starts weights = record {
@@ -24,14 +21,6 @@ ranks V r shape sound starts weights = (shape.turn, ranked r sound starts weight
 pub one_turn : {shape : Shape} → Sound shape → (s u : ℕ) → s < shape.size → u < shape.size → shape.turn s ≡ shape.turn u → s ≡ u
 one_turn {shape} sound s u in' in'' e = sym (sound.turn_back s in') ∙ ap shape.signal_at e ∙ sound.turn_back u in''
 
--- a tap reads within the tables
-pub tap_fits : {V : Type 0} {shape : Shape} → Sound shape → {starts weights values : List V} → TablesFit shape starts weights values
-    → (s k : ℕ) (x : Tap) → s < shape.size → k < length (shape.taps s) → x ≡ tap_at shape s k → (x.from < length values) × (x.cell < length weights)
-tap_fits {shape} sound {weights} fit s k x in' there e =
-    let from : (tap_at shape s k).from < shape.size = (All-get_or _ (shape.taps s) k _ there (sound.climbs s in')).0 in
-    let cell : (tap_at shape s k).cell < length weights = All-get_or _ (shape.taps s) k _ there (fit.weights_long s in') in
-    (omega (arith, ap (λ y. y.from) e, fit.values_long, from), omega (arith, ap (λ y. y.cell) e, cell))
-
 -- only the signal p has its turn
 pub is_turn : {shape : Shape} → Sound shape → (p t : ℕ) → p < shape.size → eqb t (shape.turn p) ≡ (ltb t shape.size && eqb (shape.signal_at t) p)
 is_turn {shape} sound p t in' =
@@ -43,25 +32,6 @@ is_turn {shape} sound p t in' =
     grind (arith, nat_tests))
     (λ (l : shape.size ≤ t). let under = sound.turn_below p in' in grind (arith, nat_tests))
     (cases_lt t shape.size)
-
--- s has a tap from u, in place k or after
-abbrev pub fed_from : Shape → (u s k : ℕ) → Bool
-fed_from shape u s k = any (λ x. eqb x.from u) (drop k (shape.taps s))
-
-module _ (shape : Shape) (u s k : ℕ) where
-  -- the tap in place k decides first
-  module _ (x : Tap) (there : k < length (shape.taps s)) (is : x ≡ tap_at shape s k) where
-    first : fed_from shape u s k ≡ (eqb x.from u || fed_from shape u s (k + 1))
-    first = at_drop_more (any (λ (y : Tap). eqb y.from u)) (shape.taps s) k _ there ∙ ap (λ y. eqb y.from u || fed_from shape u s (k + 1)) (sym is)
-
-    pub fed_here : x.from ≡ u → fed_from shape u s k ≡ true
-    fed_here e = first ∙ or_left _ _ (eq-eqb x.from u e)
-
-    pub fed_later : x.from ≢ u → fed_from shape u s (k + 1) ≡ fed_from shape u s k
-    fed_later ne = ap (λ b. b || fed_from shape u s (k + 1)) (sym (ne_eqb x.from u ne)) ∙ sym first
-
-  pub fed_not : length (shape.taps s) ≤ k → fed_from shape u s k ≡ false
-  fed_not h = at_drop_all (any (λ (y : Tap). eqb y.from u)) (shape.taps s) k h
 
 -- the fed signals below p, with p itself, if p is the next fed signal
 pub fed_more : (shape : Shape) (u a p : ℕ) → FirstFed shape u a p → (s : ℕ)

@@ -22,11 +22,10 @@ web_on r shape starts weights = record {
   into = λ s. map (wire_of r weights) (shape.taps s);
 }
 
--- the tables are long enough for the shape
-pub record TablesFit {V : Type 0} (shape : Shape) (starts weights values : List V) : Type 0 where
+-- the starts and the weights are long enough for the shape
+pub record WebFits {V : Type 0} (shape : Shape) (starts weights : List V) : Type 0 where
   pub starts_long : shape.size ≤ length starts
   pub weights_long : (s : ℕ) → s < shape.size → AllByRecursion (λ x. x.cell < length weights) (shape.taps s)
-  pub values_long : shape.size ≤ length values
 
 -- the web of a sound shape has ranks, whatever the tables hold
 abbrev pub Ranks : Type 0 → Type 0

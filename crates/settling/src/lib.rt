@@ -4,5 +4,5 @@
 pub mod laws;
 pub mod settle;
 pub mod tap;
+pub mod web;
 pub mod wiring;
-pub mod work;

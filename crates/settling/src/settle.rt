@@ -1,13 +1,13 @@
 // Settles values after an edit.
-ghost use Rattle.std.specs.Prelude.{◌≡◌, ℕ, ◌<◌, ◌≤◌, not, ◌&&◌, drop, slice_set};
+ghost use Rattle.std.specs.Prelude.{◌≡◌, ℕ, ◌<◌, ◌≤◌, not, ◌&&◌, length, drop, slice_set};
 ghost use Rattle.paths.specs.Sums.{worked};
 ghost use Rattle.paths.specs.Edits.{only, Settled, edit_count};
 ghost use Rattle.waiting.specs.Turns.{Empty};
 ghost use Rattle.settling.specs.Shapes.{feeds, with_turns_of};
-ghost use Rattle.settling.specs.Tables.{cells, web_on, TablesFit};
+ghost use Rattle.settling.specs.Tables.{cells, web_on};
 
+use crate::web::Web;
 use crate::wiring::Wiring;
-use crate::work::work;
 use gauge::semiring::Semiring;
 use waiting::list::WaitingList;
 
@@ -35,55 +35,43 @@ fn put_fed<N: Wiring, W: WaitingList>(wiring: &N, list: &mut W, source: usize)
     }
 }
 
-// Works a signal again, and puts the signals that it feeds if its value is another now.
-fn rework<V: Semiring, N: Wiring, W: WaitingList>(
-    wiring: &N,
-    starts: &[V],
-    weights: &[V],
-    values: &mut [V],
-    list: &mut W,
-    signal: usize,
-)
-    requires fit { TablesFit (N.shape wiring.now) starts.now weights.now values.old }
-    requires limited { (N.shape wiring.now).size ≤ W.limit list.old }
-    requires here { signal < (N.shape wiring.now).size }
-    ensures written { values.new ≡ slice_set values.old signal (worked V.ops (web_on V.ops (N.shape wiring.now) starts.now weights.now) (cells V.ops values.old) signal) }
-    ensures limit { W.limit list.new ≡ W.limit list.old }
-    ensures put { (t : ℕ) → W.waits list.new t ≡ with_turns_of (N.shape wiring.now) (λ s. not (V.ops.same (cells V.ops values.old signal) (cells V.ops values.new signal)) && feeds (N.shape wiring.now) signal s) (W.waits list.old) t }
-{
-    let old = values[signal];
-    let new = work(wiring, starts, weights, values, signal);
-    values[signal] = new;
-    if !old.same(new) {
-        put_fed(wiring, list, signal);
+impl<V: Semiring, N: Wiring> Web<'_, V, N> {
+    // Works a signal again, and puts the signals that it feeds if its value is another now.
+    fn rework<W: WaitingList>(&self, values: &mut [V], list: &mut W, signal: usize)
+        requires room { (N.shape self.now.wiring.now).size ≤ length values.old }
+        requires limited { (N.shape self.now.wiring.now).size ≤ W.limit list.old }
+        requires here { signal < (N.shape self.now.wiring.now).size }
+        ensures written { values.new ≡ slice_set values.old signal (worked V.ops (web_on V.ops (N.shape self.now.wiring.now) self.now.starts.now self.now.weights.now) (cells V.ops values.old) signal) }
+        ensures limit { W.limit list.new ≡ W.limit list.old }
+        ensures put { (t : ℕ) → W.waits list.new t ≡ with_turns_of (N.shape self.now.wiring.now) (λ s. not (V.ops.same (cells V.ops values.old signal) (cells V.ops values.new signal)) && feeds (N.shape self.now.wiring.now) signal s) (W.waits list.old) t }
+    {
+        let old = values[signal];
+        let new = self.work(values, signal);
+        values[signal] = new;
+        if !old.same(new) {
+            put_fed(self.wiring, list, signal);
+        }
     }
-}
 
-/// Works the edited signal and every signal fed by a worked one whose value changed, by turn, each once; answers how many.
-pub fn settle<V: Semiring, N: Wiring, W: WaitingList>(
-    wiring: &N,
-    starts: &[V],
-    weights: &[V],
-    values: &mut [V],
-    list: &mut W,
-    edited: usize,
-) -> usize
-    requires fit { TablesFit (N.shape wiring.now) starts.now weights.now values.old }
-    requires limited { (N.shape wiring.now).size ≤ W.limit list.old }
-    requires here { edited < (N.shape wiring.now).size }
-    ensures settled { Settled V.ops (only edited) (web_on V.ops (N.shape wiring.now) starts.now weights.now) (cells V.ops values.old) (cells V.ops values.new) }
-    ensures past { drop (N.shape wiring.now).size values.new ≡ drop (N.shape wiring.now).size values.old }
-    ensures count { result ≡ edit_count V.ops edited (web_on V.ops (N.shape wiring.now) starts.now weights.now) (cells V.ops values.old) (cells V.ops values.new) }
-    ensures empty { Empty (W.waits list.new) }
-    ensures limit { W.limit list.new ≡ W.limit list.old }
-{
-    list.clear();
-    put_signal(wiring, list, edited);
-    let mut count = 0;
-    while let Some(turn) = list.take() {
-        let signal = wiring.signal_at(turn);
-        rework(wiring, starts, weights, values, list, signal);
-        count += 1;
+    /// Works the edited signal and every signal fed by a worked one whose value changed, by turn, each once; answers how many.
+    pub fn settle<W: WaitingList>(&self, values: &mut [V], list: &mut W, edited: usize) -> usize
+        requires room { (N.shape self.now.wiring.now).size ≤ length values.old }
+        requires limited { (N.shape self.now.wiring.now).size ≤ W.limit list.old }
+        requires here { edited < (N.shape self.now.wiring.now).size }
+        ensures settled { Settled V.ops (only edited) (web_on V.ops (N.shape self.now.wiring.now) self.now.starts.now self.now.weights.now) (cells V.ops values.old) (cells V.ops values.new) }
+        ensures past { drop (N.shape self.now.wiring.now).size values.new ≡ drop (N.shape self.now.wiring.now).size values.old }
+        ensures count { result ≡ edit_count V.ops edited (web_on V.ops (N.shape self.now.wiring.now) self.now.starts.now self.now.weights.now) (cells V.ops values.old) (cells V.ops values.new) }
+        ensures empty { Empty (W.waits list.new) }
+        ensures limit { W.limit list.new ≡ W.limit list.old }
+    {
+        list.clear();
+        put_signal(self.wiring, list, edited);
+        let mut count = 0;
+        while let Some(turn) = list.take() {
+            let signal = self.wiring.signal_at(turn);
+            self.rework(values, list, signal);
+            count += 1;
+        }
+        count
     }
-    count
 }

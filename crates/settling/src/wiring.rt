@@ -42,12 +42,7 @@ pub trait Wiring {
         requires { signal < (shape self.now).size }
         ensures { result ≡ feeds (shape self.now) source signal }
     {
-        for place in 0..self.tap_count(signal) {
-            if self.tap(signal, place).from == source {
-                return true;
-            }
-        }
-        false
+        (0..self.tap_count(signal)).any(|place| self.tap(signal, place).from == source)
     }
 
     /// The least signal from `start` on that has a tap from `source`, if there is one; found by a scan unless an `impl` looks it up.
@@ -55,11 +50,6 @@ pub trait Wiring {
         requires { source < (shape self.now).size }
         ensures { MatchOption result (NoneFed (shape self.now) source start) (FirstFed (shape self.now) source start) }
     {
-        for signal in start..self.signal_count() {
-            if self.is_fed_by(signal, source) {
-                return Some(signal);
-            }
-        }
-        None
+        (start..self.signal_count()).find(|&signal| self.is_fed_by(signal, source))
     }
 }

@@ -1,9 +1,9 @@
 -- Turns taken one by one. Assumes nothing.
-use Rattle.std.proofs.Common.{◌≡◌, ℕ, suc, ◌+◌, ◌<◌, ◌≤◌, Bool, true, false, not, ◌&&◌, ◌||◌, eqb, List, [], ◌∷◌, ◌++◌, length, take, drop, set, sym, refl, ap, ◌∙◌, ⊎_elim, arith}
+use Rattle.std.proofs.Common.{◌≡◌, ℕ, suc, ◌+◌, ◌<◌, ◌≤◌, Bool, true, not, ◌&&◌, ◌||◌, eqb, List, [], ◌∷◌, ◌++◌, length, take, drop, set, sym, ap, ◌∙◌, arith}
 use Rattle.std.specs.List.{AllByRecursion}
 use Rattle.std.proofs.lemmas.List.{take_more_set, drop-set-lt, drop-drop, length-take-le}
 use Rattle.std.proofs.ByRecursion.{All-push, All-weaker}
-use Rattle.std.proofs.lemmas.Bool.{and_parts, not-true, cases_Bool, eqb-true, eqb-false}
+use Rattle.std.proofs.lemmas.Bool.{false_from_ne_true}
 use Rattle.std.proofs.lemmas.Bool.Decides.{nat_tests}
 use Rattle.waiting.specs.Turns.{Empty, Least, stands, Rising, Drained}
 
@@ -20,12 +20,6 @@ few : (xs : List ℕ) (low t : ℕ) → Rising xs → AllByRecursion (λ x. low 
 few [] low t r a b l = omega arith
 few (x ∷ xs) low t r a b l = omega (arith, few xs (suc x) t r.1 r.0 b.1 b.0, a.0)
 
--- what one turn moves from those that wait to those given
-moved : (stood waits is : Bool) → (is ≡ true → waits ≡ true) → (stood || waits) ≡ ((stood || is) || (not is && waits))
-moved true waits is h = refl
-moved false waits true h = h refl
-moved false waits false h = refl
-
 module _ (waited : ℕ → Bool) (out : List ℕ) (n : ℕ) (waits : ℕ → Bool) (was : Drained waited (take n out) waits) where
   abbrev given : List ℕ
   given = take n out
@@ -35,22 +29,24 @@ module _ (waited : ℕ → Bool) (out : List ℕ) (n : ℕ) (waits : ℕ → Boo
   drained_more left t room least gone = rw (take_more_set out n t room) record {
     rising = rising_push given t was.rising (was.lesser t least.0);
     either = λ u.
-        was.either u ∙ moved (stands given u) (waits u) (eqb u t) (λ e. ap waits (eqb-true u t e) ∙ least.0)
-        ∙ (λ i. sym (stands_push given t u) i || sym (gone u) i);
+        let before = was.either u in
+        let now' = gone u in
+        let push = stands_push given t u in
+        let there = λ (e : u ≡ t). ap waits e ∙ least.0 in
+        grind (arith, nat_tests);
     lesser = λ u h.
-        let p = and_parts (not (eqb u t)) (waits u) (sym (gone u) ∙ h) in
-        All-push (λ x. x < u) given t (was.lesser u p.1) (omega (arith, least.1 u p.1, eqb-false u t (not-true (eqb u t) p.0)));
+        let now' = gone u in
+        let least' = least.1 u in
+        let both : (waits u ≡ true) × (t < u) = (grind (arith, nat_tests), grind (arith, nat_tests)) in
+        All-push (λ x. x < u) given t (was.lesser u both.0) both.1;
   }
 
   -- as many turns as there are below the limit are all
   pub drained_all : (limit : ℕ) → ((t : ℕ) → waits t ≡ true → t < limit) → n ≤ length out → limit ≤ n → Empty waits
-  drained_all limit below room many t = ⊎_elim none (λ e. e) (cases_Bool (waits t))
-    where
-      none : waits t ≡ true → waits t ≡ false
-      none e =
-          let lesser = was.lesser t e in
-          let any = All-weaker (λ x. x < t) (λ x. 0 ≤ x) (λ x l. omega arith) given lesser in
-          absurd (omega (arith, below t e, few given 0 t was.rising any lesser (omega arith), length-take-le n out room))
+  drained_all limit below room many t = false_from_ne_true (waits t) (λ e.
+      let lesser = was.lesser t e in
+      let any = All-weaker (λ x. x < t) (λ x. 0 ≤ x) (λ x l. omega arith) given lesser in
+      absurd (omega (arith, below t e, few given 0 t was.rising any lesser (omega arith), length-take-le n out room)))
 
 -- the cells past those written stay
 pub past_more : (out before : List ℕ) (n t : ℕ) → drop n out ≡ drop n before → drop (n + 1) (set out n t) ≡ drop (n + 1) before

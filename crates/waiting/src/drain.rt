@@ -2,10 +2,10 @@
 ghost use Rattle.std.specs.Prelude.{◌≡◌, ◌<◌, ◌≤◌, length, take, drop};
 ghost use Rattle.waiting.specs.Turns.{Empty, Drained};
 
-use crate::list::*;
+use crate::list::WaitingList;
 
-// Takes turns off the list into `out`, as many as wait and there is room for, and answers how many.
-// With as many cells as the limit there is room for all.
+/// Takes turns off the list into `out`, as many as wait and there is room for, and answers how many.
+/// With as many cells as the limit there is room for all.
 pub fn drain_into<W: WaitingList>(list: &mut W, out: &mut [u16]) -> usize
     ensures limit { W.limit list.new ≡ W.limit list.old }
     ensures room { result ≤ length out.old }
@@ -14,13 +14,11 @@ pub fn drain_into<W: WaitingList>(list: &mut W, out: &mut [u16]) -> usize
     ensures enough { W.limit list.old ≤ length out.old → Empty (W.waits list.new) }
     ensures past { drop result out.new ≡ drop result out.old }
 {
-    let mut n = 0;
-    while n < out.len() {
+    for (n, cell) in out.iter_mut().enumerate() {
         let Some(turn) = list.take() else {
             return n;
         };
-        out[n] = turn;
-        n += 1;
+        *cell = turn;
     }
-    n
+    out.len()
 }

@@ -1,15 +1,23 @@
 // A waiting list of 256 bits.
-mod blank;
-
 ghost use Rattle.std.specs.Prelude.{length, MatchOption};
+ghost use Rattle.waiting.specs.Turns.{Empty};
 ghost use Rattle.waiting.specs.Bits.{ZerosBefore, FirstSet, in_strip, strip_below};
 
-use crate::list::*;
+use crate::list::{OverLimit, WaitingList};
 
-// Turn t waits where bit t % 32 of word t / 32 is set.
+/// Turn t waits where bit t % 32 of word t / 32 is set.
 #[derive(Clone, Copy)]
 pub struct BitStrip {
     words: [u32; 8],
+}
+
+impl BitStrip {
+    /// No turn waits.
+    pub fn new() -> BitStrip
+        ensures { Empty (⟦<BitStrip as WaitingList>⟧.waits result) }
+    {
+        BitStrip { words: [0; 8] }
+    }
 }
 
 impl WaitingList for BitStrip {
@@ -24,7 +32,7 @@ impl WaitingList for BitStrip {
     }
 
     fn clear(&mut self) {
-        self.words = [0; 8];
+        *self = BitStrip::new();
     }
 
     fn put(&mut self, turn: u16) -> Result<(), OverLimit> {
@@ -37,9 +45,7 @@ impl WaitingList for BitStrip {
     }
 
     fn take(&mut self) -> Option<u16> {
-        let Some(word) = first_set(&self.words) else {
-            return None;
-        };
+        let word = first_set(&self.words)?;
         let bit = self.words[word].trailing_zeros();
         self.words[word] ^= 1u32 << bit;
         Some(32 * word as u16 + bit as u16)
@@ -50,10 +56,5 @@ impl WaitingList for BitStrip {
 fn first_set(words: &[u32]) -> Option<usize>
     ensures { MatchOption result (ZerosBefore words.now (length words.now)) (FirstSet words.now) }
 {
-    for (i, word) in words.iter().enumerate() {
-        if *word != 0 {
-            return Some(i);
-        }
-    }
-    None
+    words.iter().position(|word| *word != 0)
 }

@@ -4,7 +4,7 @@
 #[cfg(test)]
 mod tests {
     use waiting::drain::drain_into;
-    use waiting::list::*;
+    use waiting::list::WaitingList;
     use waiting::strip::BitStrip;
 
     #[test]

@@ -44,6 +44,14 @@ returns-in_err-write g c =
       limit = c.clear.ensures.limit;
     }
 
+pub invariant_of-web : goal.invariant_of-web
+invariant_of-web g c =
+    let r = g.G.Semiring.ops in
+    let x = view_of c.args.board in
+    let y : View _ = record { network = c.write.new.network; starts = c.write.new.starts; weights = c.write.new.weights; values = c.args.board.values.now } in
+    let ok = passed (edge_ops r) x (length c.args.strip.now) c.limit.result c.args.at c.args.edit (no_fault _ (tt {0}) (tt {0}) c.in_ok-check.ensures) in
+    record { fit = still_fits r g.G.Gauge.delays x y _ _ c.args.at c.args.edit ok c.in_ok-write.ensures }
+
 pub settle-requires : goal.settle-requires
 settle-requires g c =
     let r = g.G.Semiring.ops in
@@ -52,7 +60,7 @@ settle-requires g c =
     let ok = passed (edge_ops r) x (length c.args.strip.now) c.limit.result c.args.at c.args.edit (no_fault _ (tt {0}) (tt {0}) c.in_ok-check.ensures) in
     let wrote = c.in_ok-write.ensures in
     record {
-      fit = still_fits r g.G.Gauge.delays x y _ _ c.args.at c.args.edit ok wrote;
+      room = omega (arith, as_many r g.G.Gauge.delays x y _ _ c.args.at c.args.edit ok wrote, ok.values);
       limited = omega (arith, as_many r g.G.Gauge.delays x y _ _ c.args.at c.args.edit ok wrote, ok.turns_fit, c.limit.ensures.value);
       here = omega (arith, edited_still_there r g.G.Gauge.delays x y _ _ c.args.at c.args.edit ok wrote, c.edited_signal-edited.ensures);
     }

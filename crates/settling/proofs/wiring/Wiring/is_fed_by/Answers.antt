@@ -1,18 +1,13 @@
-use Rattle.std.proofs.Common.{sym, ◌∙◌, arith}
-use Rattle.settling.proofs.Shapes.{fed_here, fed_later, fed_not}
+use Rattle.std.proofs.Common.{eqb, rules, tests, refl, arith, ◌∙◌}
+use Rattle.std.proofs.lemmas.Iterator.{YieldsList-from_range}
+use Rattle.std.proofs.lemmas.Iterator.Search.{any_from_yields_List}
+use Rattle.settling.specs.Shapes.{tap_at}
+use Rattle.settling.proofs.Folds.{any_at}
 use Rattle.settling.proofs.wiring.Wiring.is_fed_by.Goals as goal
-
-pub returns-then-tap-source : goal.returns-then-tap-source
-returns-then-tap-source g c =
-    let room = c.tap_count-place-end.ensures in
-    sym (fed_here (g.Self.Wiring.shape c.args.self.now) c.args.source c.args.signal c.loop-place.place c.tap.result (omega arith) c.tap.ensures c.if-tap-source.true) ∙ c.loop-place.invariant
-
-pub loop-place-preserved : goal.loop-place-preserved
-loop-place-preserved g c =
-    let room = c.tap_count-place-end.ensures in
-    fed_later (g.Self.Wiring.shape c.args.self.now) c.args.source c.args.signal c.loop-place.place c.tap.result (omega arith) c.tap.ensures c.if-tap-source.false ∙ c.loop-place.invariant
 
 pub returns : goal.returns
 returns g c =
-    let room = c.tap_count-place-end.ensures in
-    sym (fed_not (g.Self.Wiring.shape c.args.self.now) c.args.source c.args.signal c.loop-place.place (omega arith)) ∙ c.loop-place.invariant
+    let shape = g.Self.Wiring.shape c.args.self.now in
+    let source = c.args.source in
+    any_from_yields_List (λ k. eqb (tap_at shape c.args.signal k).from source) _ _ _ c.any.ensures.ran (YieldsList-from_range 0 c.tap_count.result c.tap_count.result refl (omega arith)) (λ x b q k. search (rules, tests))
+    ∙ any_at (λ x. eqb x.from source) (shape.taps c.args.signal) c.tap_count.result _ c.tap_count.ensures

@@ -4,7 +4,7 @@ use Rattle.waiting.proofs.strip.BitStripWaitingList.take.Goals as goal
 
 pub returns : goal.returns
 returns c =
-    let found = c.in-Some.ensures in
-    let within : c.in-Some.word < 8 = omega arith in
-    let fits : get_or c.args.self.now.words c.in-Some.word 0 < 2 ^ 32 = search rules in
+    let found = c.in_ok-word.ensures in
+    let within : c.in_ok-word.word < 8 = omega arith in
+    let fits : get_or c.args.self.now.words c.in_ok-word.word 0 < 2 ^ 32 = search rules in
     record { limit = refl; least = search (rules, least_turn); removed = search (rules, take_removes) }

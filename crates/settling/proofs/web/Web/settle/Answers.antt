@@ -1,6 +1,6 @@
 use Rattle.std.proofs.Common.{refl, arith}
 use Rattle.settling.proofs.Settling.{begun, turned, taken_below, ended, count_ended}
-use Rattle.settling.proofs.settle.settle.Goals as goal
+use Rattle.settling.proofs.web.Web.settle.Goals as goal
 
 pub loop-turn-init : goal.loop-turn-init
 loop-turn-init g c =
@@ -10,9 +10,9 @@ pub rework-requires : goal.rework-requires
 rework-requires g c =
     let below = taken_below _ _ _ _ _ c.in-Some.turn c.loop-turn.invariant.0 c.in-Some.ensures.least.0 in
     record {
-      fit = record { starts_long = c.requires.fit.starts_long; weights_long = c.requires.fit.weights_long; values_long = omega (arith, c.loop-turn.auto.values, c.requires.fit.values_long) };
+      room = omega (arith, c.loop-turn.auto.values, c.requires.room);
       limited = omega (arith, c.requires.limited, c.in-Some.ensures.limit, c.loop-turn.invariant.1, c.put_signal.ensures.limit, c.clear.ensures.limit);
-      here = omega (arith, c.signal_at-signal.ensures, (g.N.Wiring.sound c.args.wiring.now).signal_below c.in-Some.turn below);
+      here = omega (arith, c.signal_at-signal.ensures, (g.N.Wiring.sound c.args.self.now.wiring.now).signal_below c.in-Some.turn below);
     }
 
 pub loop-turn-preserved : goal.loop-turn-preserved
@@ -21,7 +21,7 @@ loop-turn-preserved g c =
     let re = c.rework.ensures in
     let list = g.W.WaitingList in (
       turned _ _ (list.waits c.loop-turn.list) (list.waits c.take.new.self) (list.waits c.rework.new.list) c.loop-turn.values c.rework.new.values
-          c.loop-turn.count _ c.in-Some.turn c.signal_at-signal.result c.loop-turn.invariant.0 (omega (arith, c.loop-turn.auto.values, c.requires.fit.values_long))
+          c.loop-turn.count _ c.in-Some.turn c.signal_at-signal.result c.loop-turn.invariant.0 (omega (arith, c.loop-turn.auto.values, c.requires.room))
           took.least took.removed c.signal_at-signal.ensures re.written re.put (omega arith),
       (let limit = took.limit in let was = c.loop-turn.invariant.1 in cc),
     )
