@@ -5,7 +5,7 @@ use Rattle.std.proofs.lemmas.List.{at_drop_more, at_drop_all, map-append, append
 use Rattle.std.proofs.lemmas.Bool.{cases_Bool, cond-true, cond-false}
 use Rattle.text.specs.Text.{Piece, piece}
 use Rattle.text.specs.declared.word.Command.{Command}
-use Rattle.text.specs.Words.{any_of, one_of, dotted, command_named_lem, known, lexeme_of, is_long, long_names, Lexeme, keyword, unknown, plain}
+use Rattle.text.specs.Words.{any_of, one_of, dotted, command_named, known, lexeme_of, is_long, long_names, Lexeme, keyword, unknown, plain}
 use Rattle.network.specs.declared.span.Span.{Span}
 use Rattle.network.specs.Wiring.{is_driven_lem}
 use Rattle.network.specs.declared.signal.Signal.{Signal}
@@ -65,7 +65,7 @@ known_dotted None w = refl
 known_dotted (Some c) w = refl
 
 pub lexeme_dotted : (w : Piece) (l : Lexeme) → l ≡ lexeme_of w → is_dotted l ≡ dotted w.bytes
-lexeme_dotted w l e = ap is_dotted e ∙ dot_cond (dotted w.bytes) w _ (known_dotted (command_named_lem w.bytes) w)
+lexeme_dotted w l e = ap is_dotted e ∙ dot_cond (dotted w.bytes) w _ (known_dotted (command_named w.bytes) w)
 
 -- ---- names one by one
 

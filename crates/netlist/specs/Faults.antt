@@ -7,7 +7,7 @@ use Rattle.fault.specs.declared.refusal.Refusal.{Refusal}
 use Rattle.network.specs.Limit.{max_signals}
 use Rattle.text.specs.Text.{Piece, words, bad_places}
 use Rattle.text.specs.Words.{any_of, one_of, dotted, lexeme_of, long_names}
-use Rattle.rows.specs.Rows.{Row, row_fits_lem}
+use Rattle.rows.specs.Rows.{Row, row_fits}
 use Rattle.netlist.specs.declared.stage.Stage.{Stage}
 use Rattle.netlist.specs.declared.stage.Stage.TheVariants.{Before, Body, Rows, After}
 use Rattle.netlist.specs.Signals.{Signal, Driver, undriven, input, latched, gates, is_undriven, no_signal, number_of, mention_all_lem}
@@ -79,7 +79,7 @@ abbrev pub row_joins_lem : Driver → Row → Bool
 row_joins_lem undriven r = false
 row_joins_lem input r = false
 row_joins_lem (latched d ws) r = false
-row_joins_lem (gates ps c) r = row_fits_lem (length ps) c r
+row_joins_lem (gates ps c) r = row_fits (length ps) c r
 
 -- a row follows .names or another row
 abbrev pub row_stands_lem : Stage → List Signal → Row → Bool

@@ -5,7 +5,7 @@ use Rattle.std.proofs.lemmas.Nat.{mod_below}
 use Rattle.std.proofs.lemmas.List.FromFn.{length-map-range_with_len, get_or-map-range_with_len}
 use Rattle.std.proofs.lemmas.List.{same_lists}
 use Rattle.text.specs.Words.{any_of}
-use Rattle.rows.specs.Rows.{Row, Cover, with_row, no_rows, is_one_lem, matches, settings}
+use Rattle.rows.specs.Rows.{Row, Cover, with_row, no_rows, is_one, matches, settings}
 use Rattle.rows.specs.Settings.{bit_of, one}
 use Rattle.rows.specs.Cover.{RowsCover}
 
@@ -32,7 +32,7 @@ matched_more t u marks h =
     bit_one (bit_of u s) (bit_of t s) (matches marks s) (h s l) (mod_below _ 2 (omega arith))
     ∙ ap (λ (b : Bool). b || matches marks s) (sym (get_or-map-range_with_len (λ k. eqb (bit_of t k) 1) 0 16 s s false l (omega arith))))
 
-pub cover_more : (c : Cover) (r : Row) (v : Bool) (hits : List Bool) → v ≡ is_one_lem r.value → hits ≡ (with_row r c).matched → record { value = Some v; matched = hits } ≡ with_row r c
+pub cover_more : (c : Cover) (r : Row) (v : Bool) (hits : List Bool) → v ≡ is_one r.value → hits ≡ (with_row r c).matched → record { value = Some v; matched = hits } ≡ with_row r c
 cover_more c r v hits e h =
     ap (λ (xs : List Bool). record { value = Some v; matched = xs }) h ∙ ap (λ (b : Bool). record { value = Some b; matched = (with_row r c).matched }) e
 

@@ -1,6 +1,6 @@
 // Whether a row may follow a gate's other rows, and the gate with one row more.
 ghost use Rattle.std.specs.Prelude.{◌≡◌};
-ghost use Rattle.rows.specs.Rows.{is_mark_lem, all_of, is_one_lem, is_bit_lem, agrees, row_fits_lem, with_row};
+ghost use Rattle.rows.specs.Rows.{is_mark, all_of, is_one, is_bit, agrees, row_fits, with_row};
 ghost use Rattle.rows.specs.Views.{row_on, cover_on};
 
 use crate::row::Row;
@@ -9,13 +9,13 @@ use network::gate::Gate;
 use text::fixed::is_text;
 
 fn is_mark(b: u8) -> bool
-    ensures { result ≡ is_mark_lem b }
+    ensures { result ≡ is_mark b }
 {
     b == b'0' || b == b'1' || b == b'-'
 }
 
 fn all_marks(marks: &[u8]) -> bool
-    ensures { result ≡ all_of is_mark_lem marks.now }
+    ensures { result ≡ all_of is_mark marks.now }
 {
     for m in marks {
         if !is_mark(*m) {
@@ -26,13 +26,13 @@ fn all_marks(marks: &[u8]) -> bool
 }
 
 fn is_one(word: &[u8]) -> bool
-    ensures { result ≡ is_one_lem word.now }
+    ensures { result ≡ is_one word.now }
 {
     is_text(word, b"1")
 }
 
 fn is_bit(word: &[u8]) -> bool
-    ensures { result ≡ is_bit_lem word.now }
+    ensures { result ≡ is_bit word.now }
 {
     is_text(word, b"0") || is_one(word)
 }
@@ -49,7 +49,7 @@ fn agree(last_word: Option<bool>, one: bool) -> bool
 
 /// Whether the gate takes the row: one mark for each pin, and a last word like those of its other rows.
 pub fn row_fits(gate: Gate, row: Row<'_>) -> bool
-    ensures { result ≡ row_fits_lem gate.pin_count (cover_on gate) (row_on row.entry) }
+    ensures { result ≡ row_fits gate.pin_count (cover_on gate) (row_on row.entry) }
 {
     row.marks.len() == gate.pin_count as usize
         && all_marks(row.marks)

@@ -19,8 +19,8 @@ latch_types = codes "fe" ∷ codes "re" ∷ codes "ah" ∷ codes "al" ∷ codes 
 abbrev pub initial_values : List (List ℕ)
 initial_values = codes "0" ∷ codes "1" ∷ codes "2" ∷ codes "3" ∷ []
 
-abbrev pub command_named_lem : List ℕ → Option Command
-command_named_lem w =
+abbrev pub command_named : List ℕ → Option Command
+command_named w =
     cond (bytes_eq w (codes ".model")) (Some Model)
     (cond (bytes_eq w (codes ".inputs")) (Some Inputs)
     (cond (bytes_eq w (codes ".outputs")) (Some Outputs)
@@ -44,7 +44,7 @@ known None w = unknown w
 known (Some c) w = keyword c w
 
 abbrev pub lexeme_of : Piece → Lexeme
-lexeme_of w = cond (dotted w.bytes) (known (command_named_lem w.bytes) w) (plain w)
+lexeme_of w = cond (dotted w.bytes) (known (command_named w.bytes) w) (plain w)
 
 -- a name has at most 32 bytes
 abbrev pub is_long : Piece → Bool

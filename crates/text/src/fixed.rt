@@ -1,7 +1,7 @@
 // Words that stand for themselves.
 ghost use Rattle.std.specs.Prelude.{◌≡◌};
 ghost use Rattle.std.specs.Str.{bytes_eq};
-ghost use Rattle.text.specs.Words.{one_of, latch_types, initial_values, command_named_lem};
+ghost use Rattle.text.specs.Words.{one_of, latch_types, initial_values, command_named};
 
 use crate::word::Command;
 
@@ -13,7 +13,7 @@ pub fn is_text(word: &[u8], fixed: &[u8]) -> bool
 
 /// The command that the word is, if any.
 pub fn command_named(word: &[u8]) -> Option<Command>
-    ensures { result ≡ command_named_lem word.now }
+    ensures { result ≡ command_named word.now }
 {
     if is_text(word, b".model") {
         Some(Command::Model)
