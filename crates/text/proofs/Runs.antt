@@ -7,16 +7,6 @@ use Rattle.std.proofs.lemmas.List.{at_drop_more, drop_all}
 use Rattle.std.proofs.lemmas.Bool.{cond-true, cond-false}
 use Rattle.text.specs.Text.{bad, bad_places}
 
-module _ (p : ℕ → Bool) (xs : List ℕ) (i r : ℕ) where
-  pub run_more : i < length xs → p (get_or xs i 0) ≡ true → i + prefix_len p (drop i xs) ≡ r → i + 1 + prefix_len p (drop (i + 1) xs) ≡ r
-  run_more h t e = omega (arith, prefix_len-drop_yes p xs i 0 h t)
-
-  pub run_stops : i < length xs → p (get_or xs i 0) ≡ false → i + prefix_len p (drop i xs) ≡ r → i ≡ r
-  run_stops h t e = omega (arith, prefix_len-drop_no p xs i 0 h t)
-
-  pub run_ends : length xs ≤ i → i + prefix_len p (drop i xs) ≡ r → i ≡ r
-  run_ends h e = omega (arith, prefix_len-drop_all p xs i h)
-
 -- the bad places from i on, up to e
 module _ (xs : List ℕ) (i e : ℕ) where
   abbrev pub Bad : List ℕ
