@@ -1,5 +1,5 @@
 // Lines and words of a text.
-ghost use Rattle.std.specs.Prelude.{◌≡◌, ◌+◌, ◌-◌, ◌<◌, ◌≤◌, not, [], ◌∷◌, length, take, drop, IfSome, MatchOption};
+ghost use Rattle.std.specs.Prelude.{◌≡◌, ◌+◌, ◌-◌, ◌<◌, ◌≤◌, not, [], ◌∷◌, length, take, drop, position, IfSome, MatchOption};
 ghost use Rattle.std.specs.List.{prefix_len};
 ghost use Rattle.text.specs.Text.{newline, blank, solid, bad, words, bad_places};
 ghost use Rattle.text.specs.Words.{long_names};
@@ -61,6 +61,14 @@ fn word_len(text: &[u8]) -> usize
     text.iter().take_while(|b| is_solid(**b)).count()
 }
 
+/// The place of the first byte below `len` that a netlist may not hold.
+fn bad_at(text: &[u8], len: usize) -> Option<usize>
+    ensures is { result ≡ position bad (take len text.now) }
+    ensures within { IfSome result (λ i. i < length text.now) }
+{
+    text.iter().take(len).position(|b| is_bad(*b))
+}
+
 /// The place of the byte 10 that closes the line, or the text's length.
 pub fn line_end(text: &[u8], from: usize) -> usize
     ensures { result ≡ from + prefix_len (λ b. not (newline b)) (drop from text.now) }
@@ -72,14 +80,10 @@ pub fn line_end(text: &[u8], from: usize) -> usize
 pub fn check_bytes(text: &[u8], from: usize, end: usize) -> Result<(), WordFault>
     ensures { result ≡ refusing BadByte (bad_places from (take (end - from) (drop from text.now))) }
 {
-    let mut at = from;
-    while at < end && at < text.len() {
-        if is_bad(text[at]) {
-            return Err(WordFault::BadByte(at));
-        }
-        at += 1;
+    match bad_at(after(text, from), end.saturating_sub(from)) {
+        Some(skipped) => Err(WordFault::BadByte(from + skipped)),
+        None => Ok(()),
     }
-    Ok(())
 }
 
 /// Refuses a name of over 32 bytes.
