@@ -1,11 +1,7 @@
 -- The rows of a gate: which words are a row, and which settings it matches.
 use Rattle.std.specs.Prelude.{ℕ, ◌+◌, ◌/◌, ◌%◌, Bool, true, false, not, ◌&&◌, ◌||◌, List, [], ◌∷◌, map, length, Some, None, codes, Option, ◌==◌, slice_index_or}
-use Rattle.std.specs.List.{range_with_len}
+use Rattle.std.specs.List.{list_all, range_with_len}
 use Rattle.std.specs.Str.{bytes_eq}
-
-abbrev pub all_of : {A : Type 0} → (A → Bool) → List A → Bool
-all_of p [] = true
-all_of p (x ∷ xs) = p x && all_of p xs
 
 -- the marks, one for each pin, and the last word
 pub record Row : Type 0 where
@@ -39,7 +35,7 @@ agrees (Some a) b = alike a b
 
 -- a row of a gate with n pins
 abbrev pub row_fits : ℕ → Cover → Row → Bool
-row_fits n c r = length r.marks == n && (all_of is_mark r.marks && (is_bit r.value && agrees c.value (is_one r.value)))
+row_fits n c r = length r.marks == n && (list_all is_mark r.marks && (is_bit r.value && agrees c.value (is_one r.value)))
 
 -- a - fits 0 and 1, and a 0 or 1 itself
 abbrev pub fits : ℕ → ℕ → Bool
