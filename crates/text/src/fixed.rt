@@ -1,15 +1,8 @@
 // Words that stand for themselves.
 ghost use Rattle.std.specs.Prelude.{◌≡◌};
-ghost use Rattle.std.specs.Str.{bytes_eq};
 ghost use Rattle.text.specs.Words.{one_of, latch_types, initial_values, command_named};
 
 use crate::word::Command;
-
-pub fn is_text(word: &[u8], fixed: &[u8]) -> bool
-    ensures { result ≡ bytes_eq word.now fixed.now }
-{
-    word == fixed
-}
 
 /// The command that the word is, if any.
 pub fn command_named(word: &[u8]) -> Option<Command>

@@ -6,14 +6,16 @@ ghost use Rattle.text.specs.Views.{piece_of, lexeme_in};
 use crate::fixed::command_named;
 use crate::word::{Token, Word};
 
-pub fn token_of(word: Word<'_>) -> Token<'_>
-    ensures { lexeme_in result ≡ lexeme_of (piece_of word.entry) }
-{
-    match word.text {
-        [b'.', ..] => match command_named(word.text) {
-            Some(command) => Token::Keyword(command, word),
-            None => Token::Dotted(word),
-        },
-        _ => Token::Plain(word),
+impl<'a> From<Word<'a>> for Token<'a> {
+    ghost from_gives = { λ word token. lexeme_in token ≡ lexeme_of (piece_of word) };
+
+    fn from(word: Word<'a>) -> Token<'a> {
+        match word.text {
+            [b'.', ..] => match command_named(word.text) {
+                Some(command) => Token::Keyword(command, word),
+                None => Token::Dotted(word),
+            },
+            _ => Token::Plain(word),
+        }
     }
 }
