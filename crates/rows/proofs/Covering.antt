@@ -1,10 +1,9 @@
 -- Settings that some row matches. Assumes nothing.
 use Rattle.std.proofs.Common.{◌≡◌, ℕ, zero, suc, ◌<◌, max, Bool, true, false, ◌||◌, eqb, List, [], ◌∷◌, map, get_or, Some, fold, sym, refl, ap, ◌∙◌, arith}
-use Rattle.std.specs.List.{range_with_len}
+use Rattle.std.specs.List.{list_any, range_with_len}
 use Rattle.std.proofs.lemmas.Nat.{mod_below}
 use Rattle.std.proofs.lemmas.List.FromFn.{length-map-range_with_len, get_or-map-range_with_len}
 use Rattle.std.proofs.lemmas.List.{same_lists}
-use Rattle.text.specs.Words.{any_of}
 use Rattle.rows.specs.Rows.{Row, Cover, with_row, no_rows, is_one, matches, settings}
 use Rattle.rows.specs.Settings.{bit_of, one}
 use Rattle.rows.specs.Cover.{RowsCover}
@@ -47,7 +46,7 @@ or_assoc true b c = refl
 or_assoc false b c = refl
 
 abbrev some_row : List Row → ℕ → Bool
-some_row rs s = any_of (λ (r : Row). matches r.marks s) rs
+some_row rs s = list_any (λ (r : Row). matches r.marks s) rs
 
 step_cover : (h : ℕ → Bool) (c : Cover) (r : Row) → c.matched ≡ map h settings → (with_row r c).matched ≡ map (λ s. h s || matches r.marks s) settings
 step_cover h c r e =
