@@ -1,7 +1,8 @@
 // The settings of a gate's pins that a row matches.
 ghost use Rattle.std.specs.Prelude.{◌≡◌, ℕ, ◌<◌, max};
 ghost use Rattle.rows.specs.Rows.{fits, matches};
-ghost use Rattle.rows.specs.Settings.{bit_of, one, Covers};
+ghost use Rattle.std.specs.Int.{bit_at};
+ghost use Rattle.rows.specs.Settings.{one, Covers};
 
 fn mark_fits(mark: u8, value: u32) -> bool
     requires { value < 2 }
@@ -41,7 +42,7 @@ pub fn row_settings(marks: &[u8]) -> u16
 
 /// The settings that were matched before, or that the marks fit.
 pub fn with_settings(matched: u16, marks: &[u8]) -> u16
-    ensures { (s : ℕ) → s < 16 → bit_of result s ≡ max (bit_of matched s) (one (matches marks.now s)) }
+    ensures { (s : ℕ) → s < 16 → bit_at result s ≡ max (bit_at matched s) (one (matches marks.now s)) }
 {
     matched | row_settings(marks)
 }
