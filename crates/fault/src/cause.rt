@@ -6,23 +6,23 @@ use std::fmt;
 /// Why a call refuses. The rules number the causes from 1 to 17.
 #[derive(Clone, Copy, PartialEq, Eq, Debug)]
 pub enum Cause {
-    FileTooLong,
-    BadByte,
-    BadLine,
-    LongName,
-    TooManyPins,
-    TooManySignals,
-    BadRow,
-    SecondDriver,
-    NoDriver,
-    Cycle,
-    BadField,
-    NoSuchPart,
-    EarlyAboveLate,
-    NamedTwice,
-    TooShort,
-    LowLimit,
-    NoPinGives,
+    FileTooLong = 1,
+    BadByte = 2,
+    BadLine = 3,
+    LongName = 4,
+    TooManyPins = 5,
+    TooManySignals = 6,
+    BadRow = 7,
+    SecondDriver = 8,
+    NoDriver = 9,
+    Cycle = 10,
+    BadField = 11,
+    NoSuchPart = 12,
+    EarlyAboveLate = 13,
+    NamedTwice = 14,
+    TooShort = 15,
+    LowLimit = 16,
+    NoPinGives = 17,
 }
 
 impl Cause {
@@ -30,25 +30,7 @@ impl Cause {
     pub fn number(self) -> u8
         ensures { result ≡ number_of self }
     {
-        match self {
-            Cause::FileTooLong => 1,
-            Cause::BadByte => 2,
-            Cause::BadLine => 3,
-            Cause::LongName => 4,
-            Cause::TooManyPins => 5,
-            Cause::TooManySignals => 6,
-            Cause::BadRow => 7,
-            Cause::SecondDriver => 8,
-            Cause::NoDriver => 9,
-            Cause::Cycle => 10,
-            Cause::BadField => 11,
-            Cause::NoSuchPart => 12,
-            Cause::EarlyAboveLate => 13,
-            Cause::NamedTwice => 14,
-            Cause::TooShort => 15,
-            Cause::LowLimit => 16,
-            Cause::NoPinGives => 17,
-        }
+        self as u8
     }
 
     /// The cause in words.
@@ -74,6 +56,14 @@ impl Cause {
             Cause::LowLimit => "the waiting list is too small for the signals",
             Cause::NoPinGives => "no pin gives this arrival",
         }
+    }
+}
+
+impl From<Cause> for u8 {
+    ghost from_gives = { λ cause number. number ≡ number_of cause };
+
+    fn from(cause: Cause) -> u8 {
+        cause.number()
     }
 }
 

@@ -1,5 +1,6 @@
 -- Each signal of an accepted text is driven by one word. Assumes nothing.
 use Rattle.std.proofs.Common.{◌≡◌, ℕ, ◌+◌, Bool, true, false, cond, ◌||◌, List, [], ◌∷◌, ◌++◌, map, count_by, sym, refl, ap, ◌∙◌, ⊎_elim, arith}
+use Rattle.std.specs.List.{list_any}
 use mathlib.Core.Bool.{false≢true}
 use Rattle.std.specs.Str.{bytes_eq}
 use Rattle.std.proofs.lemmas.Slice.Eq.{bytes_eq-Decides}
@@ -8,7 +9,7 @@ use Rattle.std.proofs.lemmas.Bool.{cases_Bool, or_left, or_right, or_cases}
 use Rattle.fault.specs.declared.cause.Cause.TheVariants.{BadByte, BadLine, LongName, TooManyPins, TooManySignals, BadRow, SecondDriver}
 use Rattle.fault.specs.declared.refusal.Refusal.{Refusal}
 use Rattle.text.specs.Text.{Piece, words, lines, bad_places}
-use Rattle.text.specs.Words.{any_of, one_of, lexeme_of, long_names}
+use Rattle.text.specs.Words.{one_of, lexeme_of, long_names}
 use Rattle.netlist.specs.declared.stage.Stage.TheVariants.{Before}
 use Rattle.netlist.specs.Effects.{state}
 use Rattle.netlist.specs.Faults.{State, fault, only_if, outside, many_pins, too_many, wrong_row, has_driver_lem, driven_twice, rule_faults, word_faults}
@@ -66,7 +67,7 @@ one_push done w n = any_append (bytes_eq n) done (w ∷ [])
 module _ (ss : List Signal) (n : List ℕ) where
   -- the words ws name n at most once, and not at all where n has a driver or was named before
   abbrev Once : List (List ℕ) → List Piece → Type 0
-  Once done ws = (count_by (named n) ws ≡ one (any_of (named n) ws)) × ((has_driver_lem ss n || one_of done n) ≡ true → any_of (named n) ws ≡ false)
+  Once done ws = (count_by (named n) ws ≡ one (list_any (named n) ws)) × ((has_driver_lem ss n || one_of done n) ≡ true → list_any (named n) ws ≡ false)
 
   pub once : (done : List (List ℕ)) (ws : List Piece) → driven_twice ss done ws ≡ [] → Once done ws
   once done [] e = (refl, λ _. refl)
@@ -79,16 +80,16 @@ module _ (ss : List Signal) (n : List ℕ) where
       this new ih t =
           let same : w.bytes ≡ n = (bytes_eq-Decides w.bytes n).0 t in
           let back : bytes_eq n w.bytes ≡ true = (bytes_eq-Decides n w.bytes).1 (sym same) in
-          let left : any_of (named n) ws ≡ false = ih.1 (or_right (has_driver_lem ss n) _ (one_push done w.bytes n ∙ or_right (one_of done n) _ (or_left (bytes_eq n w.bytes) false back))) in
+          let left : list_any (named n) ws ≡ false = ih.1 (or_right (has_driver_lem ss n) _ (one_push done w.bytes n ∙ or_right (one_of done n) _ (or_left (bytes_eq n w.bytes) false back))) in
           let none : count_by (named n) ws ≡ 0 = ih.0 ∙ ap one left in (
-            count_cons n w ws ∙ (omega (arith, ap one t, none) ∙ sym (ap (λ (b : Bool). one (b || any_of (named n) ws)) t)),
+            count_cons n w ws ∙ (omega (arith, ap one t, none) ∙ sym (ap (λ (b : Bool). one (b || list_any (named n) ws)) t)),
             λ y. absurd (false≢true (sym new ∙ (ap (λ (x : List ℕ). has_driver_lem ss x || one_of done x) same ∙ y))),
           )
 
       other : Once (done ++ w.bytes ∷ []) ws → named n w ≡ false → Once done (w ∷ ws)
       other ih f = (
-        count_cons n w ws ∙ (ap (λ (b : Bool). one b + count_by (named n) ws) f ∙ (omega arith ∙ (ih.0 ∙ sym (ap (λ (b : Bool). one (b || any_of (named n) ws)) f)))),
-        λ y. ap (λ (b : Bool). b || any_of (named n) ws) f ∙ ih.1 (grown y),
+        count_cons n w ws ∙ (ap (λ (b : Bool). one b + count_by (named n) ws) f ∙ (omega arith ∙ (ih.0 ∙ sym (ap (λ (b : Bool). one (b || list_any (named n) ws)) f)))),
+        λ y. ap (λ (b : Bool). b || list_any (named n) ws) f ∙ ih.1 (grown y),
       )
         where
           grown : (has_driver_lem ss n || one_of done n) ≡ true → (has_driver_lem ss n || one_of (done ++ w.bytes ∷ []) n) ≡ true
@@ -113,7 +114,7 @@ counted_more past line s now e x n =
     ap (count_by (named n)) (lines_push drives_of past line)
     ∙ (sum_by-append (λ (w : Piece). one (named n w)) (in_lines drives_of past) ds
     ∙ (ap (λ (k : ℕ). k + count_by (named n) ds) (x n)
-    ∙ (add_one (any_of (named n) ds) (look is_driven_lem s.signals n) (count_by (named n) ds) o.0 (λ t. o.1 (or_left (has_driver_lem s.signals n) false t))
+    ∙ (add_one (list_any (named n) ds) (look is_driven_lem s.signals n) (count_by (named n) ds) o.0 (λ t. o.1 (or_left (has_driver_lem s.signals n) false t))
     ∙ sym (ap one (line_turns is_driven_lem drives_of driven_turns (λ m. refl) s line now n e)))))
 
 pub text_drivers : (text : List ℕ) (ss : List Signal) → Accepted text ss → (n : List ℕ) → count_by (named n) (words_in drives_of text) ≡ one (look is_driven_lem ss n)

@@ -1,11 +1,11 @@
 -- What lines do to a test on a name: drivers, outputs and captures. Assumes nothing.
 use Rattle.std.proofs.Common.{◌≡◌, ℕ, Bool, true, false, not, ◌||◌, List, [], ◌∷◌, ◌++◌, get_or, Some, None, Option, sym, refl, ap, ◌∙◌, arith, length-set}
-use Rattle.std.specs.List.{flat_map}
+use Rattle.std.specs.List.{list_any, flat_map}
 use Rattle.std.proofs.ByRecursion.{All-weaker}
 use Rattle.std.proofs.lemmas.List.{flat_map_more}
 use Rattle.rows.specs.Rows.{Row}
 use Rattle.text.specs.Text.{Piece, words, lines}
-use Rattle.text.specs.Words.{any_of, lexeme_of}
+use Rattle.text.specs.Words.{lexeme_of}
 use Rattle.netlist.specs.declared.stage.Stage.{Stage}
 use Rattle.netlist.specs.declared.stage.Stage.TheVariants.{Before, Body, Rows, After}
 use Rattle.netlist.specs.Effects.{state, rowed, add_row_lem, row_at, row_done, effect, words_effect}
@@ -47,9 +47,9 @@ or_swap true false c = refl
 or_swap false true c = refl
 or_swap false false c = refl
 
-pub any_append : {A : Type 0} (p : A → Bool) (xs ys : List A) → any_of p (xs ++ ys) ≡ (any_of p xs || any_of p ys)
+pub any_append : {A : Type 0} (p : A → Bool) (xs ys : List A) → list_any p (xs ++ ys) ≡ (list_any p xs || list_any p ys)
 any_append p [] ys = refl
-any_append p (x ∷ xs) ys = ap (λ (b : Bool). p x || b) (any_append p xs ys) ∙ or_assoc (p x) (any_of p xs) (any_of p ys)
+any_append p (x ∷ xs) ys = ap (λ (b : Bool). p x || b) (any_append p xs ys) ∙ or_assoc (p x) (list_any p xs) (list_any p ys)
   where
     or_assoc : (a b c : Bool) → (a || (b || c)) ≡ ((a || b) || c)
     or_assoc true b c = refl
@@ -61,13 +61,13 @@ module _ (f : Signal → Bool) (g : Signal → Signal) (names : (s : Signal) →
   still_known : (ss : List Signal) (k : ℕ) (n : List ℕ) → Known ss n → Known (changed g ss k) n
   still_known ss k n h = omega (arith, number_kept g names ss k n, length-set ss k (g (get_or ss k no_signal)))
 
-  each_set : (ws : List Piece) (ss : List Signal) (n : List ℕ) → Mentioned ss ws → look f (on_each g ss ws) n ≡ (any_of (named n) ws || look f ss n)
+  each_set : (ws : List Piece) (ss : List Signal) (n : List ℕ) → Mentioned ss ws → look f (on_each g ss ws) n ≡ (list_any (named n) ws || look f ss n)
   each_set [] ss n m = refl
   each_set (w ∷ ws) ss n m =
       each_set ws (on_named g ss w) n (All-weaker (λ (v : Piece). Known ss v.bytes) (λ (v : Piece). Known (on_named g ss w) v.bytes) (λ v h. still_known ss (number_of ss w.bytes) v.bytes h) ws m.1)
-      ∙ (ap (λ (b : Bool). any_of (named n) ws || b) (look_set f g names holds w.bytes ss n m.0) ∙ or_swap (any_of (named n) ws) (named n w) (look f ss n))
+      ∙ (ap (λ (b : Bool). list_any (named n) ws || b) (look_set f g names holds w.bytes ss n m.0) ∙ or_swap (list_any (named n) ws) (named n w) (look f ss n))
 
-  one_set : (w : Piece) (ss : List Signal) (n : List ℕ) → Known ss w.bytes → look f (on_named g ss w) n ≡ (any_of (named n) (w ∷ []) || look f ss n)
+  one_set : (w : Piece) (ss : List Signal) (n : List ℕ) → Known ss w.bytes → look f (on_named g ss w) n ≡ (list_any (named n) (w ∷ []) || look f ss n)
   one_set w ss n h = look_set f g names holds w.bytes ss n h ∙ ap (λ (b : Bool). b || look f ss n) (sym (or_false (named n w)))
 
 -- ---- rows change none of it
@@ -91,7 +91,7 @@ rows_kept f h g ss (Some r) n = row_kept f h g ss r n
 -- ---- a statement: which words turn the test on
 
 abbrev Turns : (Signal → Bool) → (Statement → List Piece) → Type 0
-Turns f part = (s : State) (st : Statement) (n : List ℕ) → look f (effect s st).signals n ≡ (any_of (named n) (part st) || look f s.signals n)
+Turns f part = (s : State) (st : Statement) (n : List ℕ) → look f (effect s st).signals n ≡ (list_any (named n) (part st) || look f s.signals n)
 
 module _ (s : State) (n : List ℕ) where
   abbrev Now : Statement → List Signal
@@ -109,8 +109,8 @@ module _ (s : State) (n : List ℕ) where
   old_captured : (st : Statement) → look is_captured_lem (Now st) n ≡ look is_captured_lem s.signals n
   old_captured st = mentions_look is_captured_lem (λ w. refl) (mentions_of st) s.signals n
 
-  after : (f : Signal → Bool) (ws : List Piece) (st : Statement) → look f (Now st) n ≡ look f s.signals n → (any_of (named n) ws || look f (Now st) n) ≡ (any_of (named n) ws || look f s.signals n)
-  after f ws st e = ap (λ (b : Bool). any_of (named n) ws || b) e
+  after : (f : Signal → Bool) (ws : List Piece) (st : Statement) → look f (Now st) n ≡ look f s.signals n → (list_any (named n) ws || look f (Now st) n) ≡ (list_any (named n) ws || look f s.signals n)
+  after f ws st e = ap (λ (b : Bool). list_any (named n) ws || b) e
 
 pub driven_turns : Turns is_driven_lem drives_of
 driven_turns s (model m) n = refl
@@ -152,7 +152,7 @@ captured_turns s (latch d q ws) n =
     let g = driven (latched (number_of now d.bytes) ws) in
     let mid = on_named g now q in
     one_set is_captured_lem as_captured (λ z. refl) (λ z. refl) d mid n (omega (arith, (known s n (latch d q ws)).0, number_kept g (λ z. refl) now (number_of now q.bytes) d.bytes, length-set now (number_of now q.bytes) (g (get_or now (number_of now q.bytes) no_signal))))
-    ∙ ap (λ (b : Bool). any_of (named n) (d ∷ []) || b) (look_kept is_captured_lem g (λ z. refl) (λ z. refl) now (number_of now q.bytes) n ∙ old_captured s n (latch d q ws))
+    ∙ ap (λ (b : Bool). list_any (named n) (d ∷ []) || b) (look_kept is_captured_lem g (λ z. refl) (λ z. refl) now (number_of now q.bytes) n ∙ old_captured s n (latch d q ws))
 captured_turns s (row r) n = rows_kept is_captured_lem (λ x z. refl) s.stage s.signals r n
 captured_turns s ending n = refl
 captured_turns s wrong n = refl
@@ -166,30 +166,30 @@ pub lines_push : (part : Statement → List Piece) (ls : List Piece) (line : Pie
 lines_push part ls line = sym (flat_map_more (λ (l : Piece). part_of part (words l.place l.bytes)) [] ls line)
 
 module _ (f : Signal → Bool) (part : Statement → List Piece) (turns : Turns f part) (start : (n : List ℕ) → look f [] n ≡ false) where
-  words_turn : (s : State) (ws : List Piece) (n : List ℕ) → look f (words_effect s ws).signals n ≡ (any_of (named n) (part_of part ws) || look f s.signals n)
+  words_turn : (s : State) (ws : List Piece) (n : List ℕ) → look f (words_effect s ws).signals n ≡ (list_any (named n) (part_of part ws) || look f s.signals n)
   words_turn s [] n = refl
   words_turn s (w ∷ ws) n = turns s (statement_of (lexeme_of w) ws) n
 
-  pub line_turns : (s : State) (line : Piece) (now : State) (n : List ℕ) → step s line ≡ ongoing now → look f now.signals n ≡ (any_of (named n) (part_of part (words line.place line.bytes)) || look f s.signals n)
+  pub line_turns : (s : State) (line : Piece) (now : State) (n : List ℕ) → step s line ≡ ongoing now → look f now.signals n ≡ (list_any (named n) (part_of part (words line.place line.bytes)) || look f s.signals n)
   line_turns s line now n e = ap (λ (z : State). look f z.signals n) (sym (step_ongoing s line now e).1) ∙ words_turn s (words line.place line.bytes) n
 
   abbrev So : List Piece → State → Type 0
-  So past s = (n : List ℕ) → look f s.signals n ≡ any_of (named n) (in_lines part past)
+  So past s = (n : List ℕ) → look f s.signals n ≡ list_any (named n) (in_lines part past)
 
   again : (past : List Piece) (line : Piece) (s now : State) → step s line ≡ ongoing now → So past s → So (past ++ line ∷ []) now
   again past line s now e x n =
       line_turns s line now n e
-      ∙ (ap (λ (b : Bool). any_of (named n) (part_of part (words line.place line.bytes)) || b) (x n)
-      ∙ (or_comm (any_of (named n) (part_of part (words line.place line.bytes))) (any_of (named n) (in_lines part past))
-      ∙ (sym (any_append (named n) (in_lines part past) (part_of part (words line.place line.bytes))) ∙ ap (any_of (named n)) (sym (lines_push part past line)))))
+      ∙ (ap (λ (b : Bool). list_any (named n) (part_of part (words line.place line.bytes)) || b) (x n)
+      ∙ (or_comm (list_any (named n) (part_of part (words line.place line.bytes))) (list_any (named n) (in_lines part past))
+      ∙ (sym (any_append (named n) (in_lines part past) (part_of part (words line.place line.bytes))) ∙ ap (list_any (named n)) (sym (lines_push part past line)))))
 
-  text_turns : (text : List ℕ) (ss : List Signal) → Accepted text ss → (n : List ℕ) → look f ss n ≡ any_of (named n) (words_in part text)
+  text_turns : (text : List ℕ) (ss : List Signal) → Accepted text ss → (n : List ℕ) → look f ss n ≡ list_any (named n) (words_in part text)
   text_turns text ss e n =
       let a = accepted text ss e in
       ap (λ (xs : List Signal). look f xs n) (sym a.1.1.0) ∙ all_lines So again (lines 0 text) [] (state Before []) a.0 a.1.0 start n
 
-pub text_outputs : (text : List ℕ) (ss : List Signal) → Accepted text ss → (n : List ℕ) → look is_output_lem ss n ≡ any_of (named n) (words_in outputs_of text)
+pub text_outputs : (text : List ℕ) (ss : List Signal) → Accepted text ss → (n : List ℕ) → look is_output_lem ss n ≡ list_any (named n) (words_in outputs_of text)
 text_outputs = text_turns is_output_lem outputs_of output_turns (λ n. refl)
 
-pub text_captures : (text : List ℕ) (ss : List Signal) → Accepted text ss → (n : List ℕ) → look is_captured_lem ss n ≡ any_of (named n) (words_in data_of text)
+pub text_captures : (text : List ℕ) (ss : List Signal) → Accepted text ss → (n : List ℕ) → look is_captured_lem ss n ≡ list_any (named n) (words_in data_of text)
 text_captures = text_turns is_captured_lem data_of captured_turns (λ n. refl)

@@ -1,7 +1,7 @@
 -- The laws of accepted texts. Assumes nothing.
 use Rattle.std.proofs.Common.{◌≡◌, Bool, false, cond, not, count_by, sym, ap, ◌∙◌}
+use Rattle.std.specs.List.{list_any}
 use Rattle.std.proofs.ByRecursion.{All-weaker}
-use Rattle.text.specs.Words.{any_of}
 use Rattle.netlist.specs.Laws.{outputs_of, data_of, words_in, named, OneDriver, Endpoints, NamesClimb, FirstMentions}
 use Rattle.netlist.specs.Signals.{Signal, is_undriven}
 use Rattle.netlist.specs.Statements.{drives_of}
@@ -19,7 +19,7 @@ one_driver text ss e =
 
 pub endpoints : Endpoints
 endpoints text ss e =
-    All-weaker (λ (s : Signal). (look (λ (z : Signal). z.output) ss s.name.bytes ≡ s.output) × (look (λ (z : Signal). z.captured) ss s.name.bytes ≡ s.captured)) (λ (s : Signal). (s.output ≡ any_of (named s.name.bytes) (words_in outputs_of text)) × (s.captured ≡ any_of (named s.name.bytes) (words_in data_of text)))
+    All-weaker (λ (s : Signal). (look (λ (z : Signal). z.output) ss s.name.bytes ≡ s.output) × (look (λ (z : Signal). z.captured) ss s.name.bytes ≡ s.captured)) (λ (s : Signal). (s.output ≡ list_any (named s.name.bytes) (words_in outputs_of text)) × (s.captured ≡ list_any (named s.name.bytes) (words_in data_of text)))
     (λ s q. (sym q.0 ∙ text_outputs text ss e s.name.bytes, sym q.1 ∙ text_captures text ss e s.name.bytes)) ss
     (both (λ (s : Signal). look (λ (z : Signal). z.output) ss s.name.bytes ≡ s.output) (λ (s : Signal). look (λ (z : Signal). z.captured) ss s.name.bytes ≡ s.captured) ss (look_own (λ (z : Signal). z.output) ss (text_apart text ss e)) (look_own (λ (z : Signal). z.captured) ss (text_apart text ss e)))
 

@@ -1,11 +1,12 @@
 -- The turns of the passes over the words of a line. Assumes nothing.
 use Rattle.std.proofs.Common.{◌≡◌, ℕ, suc, ◌+◌, ◌<◌, ◌≤◌, Bool, true, false, cond, not, ◌||◌, List, [], ◌∷◌, ◌++◌, map, length, get_or, take, drop, Some, None, filter, Option, sym, refl, ap, ◌∙◌, ⊎_elim, arith}
+use Rattle.std.specs.List.{list_any}
 use Rattle.std.specs.Str.{bytes_eq}
 use Rattle.std.proofs.lemmas.List.{at_drop_more, at_drop_all, map-append, append_assoc, append-nil, take_more, get_or-map, get_or_past, length-map}
 use Rattle.std.proofs.lemmas.Bool.{cases_Bool, cond-true, cond-false}
 use Rattle.text.specs.Text.{Piece, piece}
 use Rattle.text.specs.declared.word.Command.{Command}
-use Rattle.text.specs.Words.{any_of, one_of, dotted, command_named_lem, known, lexeme_of, is_long, long_names, Lexeme, keyword, unknown, plain}
+use Rattle.text.specs.Words.{one_of, dotted, command_named, known, lexeme_of, is_long, long_names, Lexeme, keyword, unknown, plain}
 use Rattle.network.specs.declared.span.Span.{Span}
 use Rattle.network.specs.Wiring.{is_driven_lem}
 use Rattle.network.specs.declared.signal.Signal.{Signal}
@@ -36,17 +37,17 @@ words_end ws e inv = sym (append-nil ws) ∙ (ap (λ (xs : List Piece). ws ++ xs
 -- ---- some element
 
 module _ {A B : Type 0} (p : B → Bool) (f : A → B) (xs : List A) (i : ℕ) (r : Bool) where
-  any_at : (d : A) (b : Bool) → i < length xs → b ≡ p (f (get_or xs i d)) → any_of p (map f (drop i xs)) ≡ r → (b || any_of p (map f (drop (i + 1) xs))) ≡ r
-  any_at d b h t e = ap (λ (x : Bool). x || any_of p (map f (drop (i + 1) xs))) t ∙ (sym (at_drop_more (λ ys. any_of p (map f ys)) xs i d h) ∙ e)
+  any_at : (d : A) (b : Bool) → i < length xs → b ≡ p (f (get_or xs i d)) → list_any p (map f (drop i xs)) ≡ r → (b || list_any p (map f (drop (i + 1) xs))) ≡ r
+  any_at d b h t e = ap (λ (x : Bool). x || list_any p (map f (drop (i + 1) xs))) t ∙ (sym (at_drop_more (λ ys. list_any p (map f ys)) xs i d h) ∙ e)
 
-  pub any_more : (d : A) → i < length xs → false ≡ p (f (get_or xs i d)) → any_of p (map f (drop i xs)) ≡ r → any_of p (map f (drop (i + 1) xs)) ≡ r
+  pub any_more : (d : A) → i < length xs → false ≡ p (f (get_or xs i d)) → list_any p (map f (drop i xs)) ≡ r → list_any p (map f (drop (i + 1) xs)) ≡ r
   any_more d h t e = any_at d false h t e
 
-  pub any_found : (d : A) → i < length xs → true ≡ p (f (get_or xs i d)) → any_of p (map f (drop i xs)) ≡ r → true ≡ r
+  pub any_found : (d : A) → i < length xs → true ≡ p (f (get_or xs i d)) → list_any p (map f (drop i xs)) ≡ r → true ≡ r
   any_found d h t e = any_at d true h t e
 
-  pub any_none : length xs ≤ i → any_of p (map f (drop i xs)) ≡ r → false ≡ r
-  any_none h e = sym (at_drop_all (λ ys. any_of p (map f ys)) xs i h) ∙ e
+  pub any_none : length xs ≤ i → list_any p (map f (drop i xs)) ≡ r → false ≡ r
+  any_none h e = sym (at_drop_all (λ ys. list_any p (map f ys)) xs i h) ∙ e
 
 -- ---- words with a dot in front
 
@@ -65,7 +66,7 @@ known_dotted None w = refl
 known_dotted (Some c) w = refl
 
 pub lexeme_dotted : (w : Piece) (l : Lexeme) → l ≡ lexeme_of w → is_dotted l ≡ dotted w.bytes
-lexeme_dotted w l e = ap is_dotted e ∙ dot_cond (dotted w.bytes) w _ (known_dotted (command_named_lem w.bytes) w)
+lexeme_dotted w l e = ap is_dotted e ∙ dot_cond (dotted w.bytes) w _ (known_dotted (command_named w.bytes) w)
 
 -- ---- names one by one
 

@@ -4,7 +4,7 @@ use Rattle.std.proofs.lemmas.List.{get_or-map, get_or_past, length-map, length-t
 use Rattle.network.specs.declared.gate.Gate.{Gate}
 use Rattle.network.specs.declared.span.Span.{Span}
 use Rattle.network.specs.declared.signal.Signal as code
-use Rattle.rows.specs.Rows.{Row, Cover, row_fits_lem}
+use Rattle.rows.specs.Rows.{Row, Cover, row_fits}
 use Rattle.text.specs.Text.{Piece}
 use Rattle.netlist.specs.Signals.{Signal, changed, no_signal}
 use Rattle.netlist.specs.Faults.{row_joins_lem}
@@ -44,5 +44,5 @@ module _ (t : List ℕ) where
 pub pin_count_is : (g : Gate) → length (take g.pin_count g.pins) ≡ g.pin_count
 pin_count_is g = length-take-le g.pin_count g.pins (omega (arith, g.few, g.wide))
 
-pub fits_pins : (g : Gate) (c : Cover) (r : Row) → row_fits_lem g.pin_count c r ≡ row_fits_lem (length (take g.pin_count g.pins)) c r
-fits_pins g c r = ap (λ (n : ℕ). row_fits_lem n c r) (sym (pin_count_is g))
+pub fits_pins : (g : Gate) (c : Cover) (r : Row) → row_fits g.pin_count c r ≡ row_fits (length (take g.pin_count g.pins)) c r
+fits_pins g c r = ap (λ (n : ℕ). row_fits n c r) (sym (pin_count_is g))

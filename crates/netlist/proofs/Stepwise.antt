@@ -12,7 +12,7 @@ use Rattle.text.specs.Refusals as words
 use Rattle.text.specs.Refusals.{refusing}
 use Rattle.text.specs.Text as text
 use Rattle.text.specs.Text.{Piece, bad_places}
-use Rattle.text.specs.Words.{Lexeme, keyword, unknown, plain, lexeme_of, known, dotted, command_named_lem}
+use Rattle.text.specs.Words.{Lexeme, keyword, unknown, plain, lexeme_of, known, dotted, command_named}
 use Rattle.text.specs.declared.word.Command.{Command}
 use Rattle.text.specs.declared.word_fault.WordFault.{WordFault}
 use Rattle.text.specs.declared.word_fault.WordFault.TheVariants.{BadByte}
@@ -40,7 +40,7 @@ known_place None w = refl
 known_place (Some c) w = refl
 
 lexeme_place : (w : Piece) → place_in (lexeme_of w) ≡ w.place
-lexeme_place w = cond_both (dotted w.bytes) (known (command_named_lem w.bytes) w) (plain w) (λ (l : Lexeme). place_in l ≡ w.place) (λ _. known_place (command_named_lem w.bytes) w) (λ _. refl)
+lexeme_place w = cond_both (dotted w.bytes) (known (command_named w.bytes) w) (plain w) (λ (l : Lexeme). place_in l ≡ w.place) (λ _. known_place (command_named w.bytes) w) (λ _. refl)
 
 module _ (t : List ℕ) (s : State) where
   pub words_none : (xs : List Span) → length xs ≡ 0 → ongoing s ≡ words_judged s (pieces t xs)

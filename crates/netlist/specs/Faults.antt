@@ -1,13 +1,14 @@
 -- All faults of a line in the state before it, and the least of them.
 use Rattle.std.specs.Prelude.{ℕ, Bool, true, false, cond, not, ◌&&◌, ◌||◌, List, [], ◌∷◌, ◌++◌, map, length, drop, Some, None, Option, ◌==◌, nat_lt, slice_index_or}
+use Rattle.std.specs.List.{list_any}
 use Rattle.fault.specs.Causes as causes
 use Rattle.fault.specs.declared.cause.Cause.{Cause}
 use Rattle.fault.specs.declared.cause.Cause.TheVariants.{BadByte, BadLine, LongName, TooManyPins, TooManySignals, BadRow, SecondDriver}
 use Rattle.fault.specs.declared.refusal.Refusal.{Refusal}
 use Rattle.network.specs.Limit.{max_signals}
 use Rattle.text.specs.Text.{Piece, words, bad_places}
-use Rattle.text.specs.Words.{any_of, one_of, dotted, lexeme_of, long_names}
-use Rattle.rows.specs.Rows.{Row, row_fits_lem}
+use Rattle.text.specs.Words.{one_of, dotted, lexeme_of, long_names}
+use Rattle.rows.specs.Rows.{Row, row_fits}
 use Rattle.netlist.specs.declared.stage.Stage.{Stage}
 use Rattle.netlist.specs.declared.stage.Stage.TheVariants.{Before, Body, Rows, After}
 use Rattle.netlist.specs.Signals.{Signal, Driver, undriven, input, latched, gates, is_undriven, no_signal, number_of, mention_all_lem}
@@ -52,7 +53,7 @@ placed s wrong = false
 
 -- a signal's name has no dot in front
 abbrev pub has_dotted_lem : List Piece → Bool
-has_dotted_lem ws = any_of (λ w. dotted w.bytes) ws
+has_dotted_lem ws = list_any (λ w. dotted w.bytes) ws
 
 abbrev pub outside : Stage → Statement → Bool
 outside s st = not (placed s st) || has_dotted_lem (mentions_of st)
@@ -79,7 +80,7 @@ abbrev pub row_joins_lem : Driver → Row → Bool
 row_joins_lem undriven r = false
 row_joins_lem input r = false
 row_joins_lem (latched d ws) r = false
-row_joins_lem (gates ps c) r = row_fits_lem (length ps) c r
+row_joins_lem (gates ps c) r = row_fits (length ps) c r
 
 -- a row follows .names or another row
 abbrev pub row_stands_lem : Stage → List Signal → Row → Bool

@@ -1,9 +1,9 @@
 -- What every accepted netlist has, by the lines and words of its text.
 use Rattle.std.specs.Prelude.{◌≡◌, ℕ, ◌<◌, ◌≤◌, Bool, false, List, [], ◌∷◌, length, count_by, slice_index_or}
-use Rattle.std.specs.List.{flat_map, ContainsAt as Has, AllByRecursion}
+use Rattle.std.specs.List.{list_any, flat_map, ContainsAt as Has, AllByRecursion}
 use Rattle.std.specs.Str.{bytes_eq}
 use Rattle.text.specs.Text.{Piece, words, lines}
-use Rattle.text.specs.Words.{any_of, lexeme_of}
+use Rattle.text.specs.Words.{lexeme_of}
 use Rattle.netlist.specs.Signals.{Signal, no_signal}
 use Rattle.netlist.specs.Statements.{Statement, model, inputs, outputs, gate, latch, row, ending, wrong, statement_of, mentions_of, drives_of}
 use Rattle.netlist.specs.Reading.{read, netlist}
@@ -53,7 +53,7 @@ OneDriver = (text : List ℕ) (ss : List Signal) → Accepted text ss → AllByR
 abbrev pub Endpoints : Type 0
 Endpoints =
     (text : List ℕ) (ss : List Signal) → Accepted text ss
-    → AllByRecursion (λ (s : Signal). (s.output ≡ any_of (named s.name.bytes) (words_in outputs_of text)) × (s.captured ≡ any_of (named s.name.bytes) (words_in data_of text))) ss
+    → AllByRecursion (λ (s : Signal). (s.output ≡ list_any (named s.name.bytes) (words_in outputs_of text)) × (s.captured ≡ list_any (named s.name.bytes) (words_in data_of text))) ss
 
 abbrev pub name_of : List Signal → ℕ → Piece
 name_of ss k = (slice_index_or ss k no_signal).name

@@ -18,7 +18,6 @@ use fault::cause::Cause;
 use network::signal::Signal;
 use network::span::Span;
 use text::scan::check_bytes;
-use text::token::token_of;
 use text::word::{Command, Token};
 
 // A command at the place `at`, with the words after it.
@@ -60,7 +59,7 @@ fn read_words(
     let [first, rest @ ..] = words else {
         return Ok(stage);
     };
-    match token_of(word_at(text, *first)) {
+    match Token::from(word_at(text, *first)) {
         Token::Keyword(command, word) => read_command(text, signals, stage, word.at, command, rest),
         Token::Dotted(word) => Err(NetlistFault::new(Cause::BadLine, word.at)),
         Token::Plain(word) => read_row(text, signals, stage, word, rest),

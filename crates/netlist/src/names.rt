@@ -15,9 +15,7 @@ use crate::spans::word_at;
 use fault::cause::Cause;
 use network::signal::{Driver, Signal};
 use network::span::Span;
-use text::fixed::is_text;
 use text::scan::check_name;
-use text::token::token_of;
 use text::word::Token;
 use text::word_fault::WordFault;
 
@@ -26,7 +24,7 @@ pub fn has_dotted(text: &[u8], names: &[Span]) -> bool
     ensures { result ≡ has_dotted_lem (pieces text.now names.now) }
 {
     for w in names {
-        match token_of(word_at(text, *w)) {
+        match Token::from(word_at(text, *w)) {
             Token::Plain(_) => {}
             Token::Keyword(_, _) => return true,
             Token::Dotted(_) => return true,
@@ -51,7 +49,7 @@ pub fn number_of(text: &[u8], signals: &[Signal], name: &[u8]) -> usize
     ensures within { result ≤ length signals.now }
 {
     for (i, s) in signals.iter().enumerate() {
-        if is_text(word_at(text, s.name).text, name) {
+        if word_at(text, s.name).text == name {
             return i;
         }
     }
@@ -82,7 +80,7 @@ fn is_among(text: &[u8], names: &[Span], name: &[u8]) -> bool
     ensures { result ≡ one_of (bytes_of text.now names.now) name.now }
 {
     for w in names {
-        if is_text(name, word_at(text, *w).text) {
+        if name == word_at(text, *w).text {
             return true;
         }
     }

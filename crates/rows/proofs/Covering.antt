@@ -1,12 +1,13 @@
 -- Settings that some row matches. Assumes nothing.
 use Rattle.std.proofs.Common.{◌≡◌, ℕ, zero, suc, ◌<◌, max, Bool, true, false, ◌||◌, eqb, List, [], ◌∷◌, map, get_or, Some, fold, sym, refl, ap, ◌∙◌, arith}
-use Rattle.std.specs.List.{range_with_len}
+use mathlib.Core.Bool.{or-false, or_assoc}
+use Rattle.std.specs.List.{list_any, range_with_len}
 use Rattle.std.proofs.lemmas.Nat.{mod_below}
 use Rattle.std.proofs.lemmas.List.FromFn.{length-map-range_with_len, get_or-map-range_with_len}
 use Rattle.std.proofs.lemmas.List.{same_lists}
-use Rattle.text.specs.Words.{any_of}
-use Rattle.rows.specs.Rows.{Row, Cover, with_row, no_rows, is_one_lem, matches, settings}
-use Rattle.rows.specs.Settings.{bit_of, one}
+use Rattle.rows.specs.Rows.{Row, Cover, with_row, no_rows, is_one, matches, settings}
+use Rattle.std.specs.Int.{bit_at}
+use Rattle.rows.specs.Settings.{one}
 use Rattle.rows.specs.Cover.{RowsCover}
 
 same_map : (f g : ℕ → Bool) → ((s : ℕ) → s < 16 → f s ≡ g s) → map f (range_with_len 0 16) ≡ map g (range_with_len 0 16)
@@ -25,29 +26,21 @@ bit_one u (suc zero) true e h = ap (λ (x : ℕ). eqb x 1) e
 bit_one u (suc zero) false e h = ap (λ (x : ℕ). eqb x 1) e
 bit_one u (suc (suc t)) m e h = absurd (omega arith)
 
-pub matched_more : (t u : ℕ) (marks : List ℕ) → ((s : ℕ) → s < 16 → bit_of u s ≡ max (bit_of t s) (one (matches marks s))) → map (λ s. eqb (bit_of u s) 1) settings ≡ map (λ s. get_or (map (λ k. eqb (bit_of t k) 1) settings) s false || matches marks s) settings
+pub matched_more : (t u : ℕ) (marks : List ℕ) → ((s : ℕ) → s < 16 → bit_at u s ≡ max (bit_at t s) (one (matches marks s))) → map (λ s. eqb (bit_at u s) 1) settings ≡ map (λ s. get_or (map (λ k. eqb (bit_at t k) 1) settings) s false || matches marks s) settings
 matched_more t u marks h =
-    same_map (λ s. eqb (bit_of u s) 1) (λ s. get_or (map (λ k. eqb (bit_of t k) 1) settings) s false || matches marks s)
+    same_map (λ s. eqb (bit_at u s) 1) (λ s. get_or (map (λ k. eqb (bit_at t k) 1) settings) s false || matches marks s)
     (λ s l.
-    bit_one (bit_of u s) (bit_of t s) (matches marks s) (h s l) (mod_below _ 2 (omega arith))
-    ∙ ap (λ (b : Bool). b || matches marks s) (sym (get_or-map-range_with_len (λ k. eqb (bit_of t k) 1) 0 16 s s false l (omega arith))))
+    bit_one (bit_at u s) (bit_at t s) (matches marks s) (h s l) (mod_below _ 2 (omega arith))
+    ∙ ap (λ (b : Bool). b || matches marks s) (sym (get_or-map-range_with_len (λ k. eqb (bit_at t k) 1) 0 16 s s false l (omega arith))))
 
-pub cover_more : (c : Cover) (r : Row) (v : Bool) (hits : List Bool) → v ≡ is_one_lem r.value → hits ≡ (with_row r c).matched → record { value = Some v; matched = hits } ≡ with_row r c
+pub cover_more : (c : Cover) (r : Row) (v : Bool) (hits : List Bool) → v ≡ is_one r.value → hits ≡ (with_row r c).matched → record { value = Some v; matched = hits } ≡ with_row r c
 cover_more c r v hits e h =
     ap (λ (xs : List Bool). record { value = Some v; matched = xs }) h ∙ ap (λ (b : Bool). record { value = Some b; matched = (with_row r c).matched }) e
 
 -- ---- a list of rows
 
-or_false : (a : Bool) → a ≡ (a || false)
-or_false true = refl
-or_false false = refl
-
-or_assoc : (a b c : Bool) → ((a || b) || c) ≡ (a || (b || c))
-or_assoc true b c = refl
-or_assoc false b c = refl
-
 abbrev some_row : List Row → ℕ → Bool
-some_row rs s = any_of (λ (r : Row). matches r.marks s) rs
+some_row rs s = list_any (λ (r : Row). matches r.marks s) rs
 
 step_cover : (h : ℕ → Bool) (c : Cover) (r : Row) → c.matched ≡ map h settings → (with_row r c).matched ≡ map (λ s. h s || matches r.marks s) settings
 step_cover h c r e =
@@ -56,7 +49,7 @@ step_cover h c r e =
     (λ s l. ap (λ (b : Bool). b || matches r.marks s) (get_or-map-range_with_len h 0 16 s s false l (omega arith)))
 
 all_rows : (rs : List Row) (h : ℕ → Bool) (c : Cover) → c.matched ≡ map h settings → (fold (λ (d : Cover) (r : Row). with_row r d) c rs).matched ≡ map (λ s. h s || some_row rs s) settings
-all_rows [] h c e = e ∙ same_map h (λ s. h s || false) (λ s l. or_false (h s))
+all_rows [] h c e = e ∙ same_map h (λ s. h s || false) (λ s l. sym (or-false (h s)))
 all_rows (r ∷ rs) h c e =
     all_rows rs (λ s. h s || matches r.marks s) (with_row r c) (step_cover h c r e)
     ∙ same_map (λ s. (h s || matches r.marks s) || some_row rs s) (λ s. h s || some_row (r ∷ rs) s) (λ s l. or_assoc (h s) (matches r.marks s) (some_row rs s))

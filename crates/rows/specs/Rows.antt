@@ -1,11 +1,7 @@
 -- The rows of a gate: which words are a row, and which settings it matches.
 use Rattle.std.specs.Prelude.{ℕ, ◌+◌, ◌/◌, ◌%◌, Bool, true, false, not, ◌&&◌, ◌||◌, List, [], ◌∷◌, map, length, Some, None, codes, Option, ◌==◌, slice_index_or}
-use Rattle.std.specs.List.{range_with_len}
+use Rattle.std.specs.List.{list_all, range_with_len}
 use Rattle.std.specs.Str.{bytes_eq}
-
-abbrev pub all_of : {A : Type 0} → (A → Bool) → List A → Bool
-all_of p [] = true
-all_of p (x ∷ xs) = p x && all_of p xs
 
 -- the marks, one for each pin, and the last word
 pub record Row : Type 0 where
@@ -18,15 +14,15 @@ pub record Cover : Type 0 where
   pub matched : List Bool
 
 -- 0, 1 or -
-abbrev pub is_mark_lem : ℕ → Bool
-is_mark_lem b = b == 48 || (b == 49 || b == 45)
+abbrev pub is_mark : ℕ → Bool
+is_mark b = b == 48 || (b == 49 || b == 45)
 
-abbrev pub is_one_lem : List ℕ → Bool
-is_one_lem w = bytes_eq w (codes "1")
+abbrev pub is_one : List ℕ → Bool
+is_one w = bytes_eq w (codes "1")
 
 -- 0 or 1
-abbrev pub is_bit_lem : List ℕ → Bool
-is_bit_lem w = bytes_eq w (codes "0") || is_one_lem w
+abbrev pub is_bit : List ℕ → Bool
+is_bit w = bytes_eq w (codes "0") || is_one w
 
 abbrev pub alike : Bool → Bool → Bool
 alike true b = b
@@ -38,8 +34,8 @@ agrees None b = true
 agrees (Some a) b = alike a b
 
 -- a row of a gate with n pins
-abbrev pub row_fits_lem : ℕ → Cover → Row → Bool
-row_fits_lem n c r = length r.marks == n && (all_of is_mark_lem r.marks && (is_bit_lem r.value && agrees c.value (is_one_lem r.value)))
+abbrev pub row_fits : ℕ → Cover → Row → Bool
+row_fits n c r = length r.marks == n && (list_all is_mark r.marks && (is_bit r.value && agrees c.value (is_one r.value)))
 
 -- a - fits 0 and 1, and a 0 or 1 itself
 abbrev pub fits : ℕ → ℕ → Bool
@@ -57,4 +53,4 @@ abbrev pub no_rows : Cover
 no_rows = record { value = None; matched = map (λ _. false) settings }
 
 abbrev pub with_row : Row → Cover → Cover
-with_row r c = record { value = Some (is_one_lem r.value); matched = map (λ s. slice_index_or c.matched s false || matches r.marks s) settings }
+with_row r c = record { value = Some (is_one r.value); matched = map (λ s. slice_index_or c.matched s false || matches r.marks s) settings }

@@ -2,7 +2,7 @@
 use Rattle.std.specs.Prelude.{map, nat_eq}
 use Rattle.network.specs.declared.gate.Gate.{Gate}
 use Rattle.rows.specs.Rows as rows
-use Rattle.rows.specs.Settings.{bit_of}
+use Rattle.std.specs.Int.{bit_at}
 use Rattle.rows.specs.declared.row.Row.{Row}
 
 abbrev pub row_on : Row → rows.Row
@@ -10,4 +10,4 @@ row_on r = record { marks = r.marks.now; value = r.value.now }
 
 -- setting s is matched where bit s is 1
 abbrev pub cover_on : Gate → rows.Cover
-cover_on g = record { value = g.last_word; matched = map (λ s. nat_eq (bit_of g.matched s) 1) rows.settings }
+cover_on g = record { value = g.last_word; matched = map (λ s. nat_eq (bit_at g.matched s) 1) rows.settings }

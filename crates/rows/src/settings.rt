@@ -1,19 +1,21 @@
 // The settings of a gate's pins that a row matches.
 ghost use Rattle.std.specs.Prelude.{◌≡◌, ℕ, ◌<◌, max};
 ghost use Rattle.rows.specs.Rows.{fits, matches};
-ghost use Rattle.rows.specs.Settings.{bit_of, one, Covers};
+ghost use Rattle.std.specs.Int.{bit_at};
+ghost use Rattle.rows.specs.Settings.{one, Covers};
 
 fn mark_fits(mark: u8, value: u32) -> bool
     requires { value < 2 }
     ensures { result ≡ fits mark value }
 {
-    mark == b'-' || mark as u32 == 48 + value
+    mark == b'-' || u32::from(mark) == 48 + value
 }
 
 /// Whether the marks fit the setting, in which pin j weighs 2^j.
 pub fn row_matches(marks: &[u8], setting: u32) -> bool
     ensures { result ≡ matches marks.now setting }
 {
+    // A loop: `all` has no place for the setting, which is halved from mark to mark.
     let mut rest = setting;
     for m in marks {
         if !mark_fits(*m, rest % 2) {
@@ -28,6 +30,7 @@ pub fn row_matches(marks: &[u8], setting: u32) -> bool
 pub fn row_settings(marks: &[u8]) -> u16
     ensures { Covers marks.now result }
 {
+    // A loop: as a filter and a fold it is no plainer.
     let mut matched = 0u16;
     for s in 0..16u32 {
         if row_matches(marks, s) {
@@ -39,7 +42,7 @@ pub fn row_settings(marks: &[u8]) -> u16
 
 /// The settings that were matched before, or that the marks fit.
 pub fn with_settings(matched: u16, marks: &[u8]) -> u16
-    ensures { (s : ℕ) → s < 16 → bit_of result s ≡ max (bit_of matched s) (one (matches marks.now s)) }
+    ensures { (s : ℕ) → s < 16 → bit_at result s ≡ max (bit_at matched s) (one (matches marks.now s)) }
 {
     matched | row_settings(marks)
 }

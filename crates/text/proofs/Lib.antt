@@ -1,3 +1,3 @@
-pub mod Runs
+pub mod Places
 pub mod Wordwise
 pub mod Linewise

@@ -89,6 +89,10 @@ first_word at (b ∷ bs) t =
 
 -- ---- what `next_word` answers
 
+-- a count over the rest of a text is one over what it drops
+pub reaches : (p : ℕ → Bool) (xs ys : List ℕ) (i n : ℕ) → ys ≡ drop i xs → n ≡ prefix_len p ys → i + n ≡ i + prefix_len p (drop i xs)
+reaches p xs ys i n d e = ap (λ (k : ℕ). i + k) (e ∙ ap (prefix_len p) d)
+
 module _ (xs : List ℕ) (from s e : ℕ) (hs : s ≡ from + prefix_len blank (drop from xs)) (he : e ≡ s + prefix_len solid (drop s xs)) where
   at_start_lem : drop (prefix_len blank (drop from xs)) (drop from xs) ≡ drop s xs
   at_start_lem = drop-drop _ from xs ∙ ap (λ (k : ℕ). drop k xs) (sym hs)
@@ -103,9 +107,6 @@ module _ (xs : List ℕ) (from s e : ℕ) (hs : s ≡ from + prefix_len blank (d
       from_start
       ∙ no_word s (drop s xs) (sym (ap (prefix_len blank) at_start_lem) ∙ leading_after blank (drop from xs)) (omega arith)
 
-  pub next_within : (s ≡ e → ⊥) → e ≤ length xs
-  next_within h = omega (arith, prefix_len-le-length solid (drop s xs), length-drop s xs)
-
   pub next_some : (s ≡ e → ⊥) → words from (drop from xs) ≡ piece s (take (e - s) (drop s xs)) ∷ words (s + length (take (e - s) (drop s xs))) (drop (s + length (take (e - s) (drop s xs))) xs)
   next_some h =
       let l : 0 < prefix_len solid (drop s xs) = omega arith in
@@ -116,14 +117,3 @@ module _ (xs : List ℕ) (from s e : ℕ) (hs : s ≡ from + prefix_len blank (d
       ∙ (ap (λ (m : ℕ). piece s (take m (drop s xs)) ∷ words (s + m) (drop m (drop s xs))) n
       ∙ (ap (λ (ys : List ℕ). piece s (take (e - s) (drop s xs)) ∷ words (s + (e - s)) ys) (drop-drop (e - s) s xs)
       ∙ sym (ap (λ (m : ℕ). piece s (take (e - s) (drop s xs)) ∷ words (s + m) (drop (s + m) xs)) k))))
-
-  pub next_inside : (s ≡ e → ⊥) → (from ≤ s) × (0 < length (take (e - s) (drop s xs))) × (s + length (take (e - s) (drop s xs)) ≤ length xs)
-  next_inside h =
-      let k : length (take (e - s) (drop s xs)) ≡ e - s = length-take-le (e - s) (drop s xs) (omega (arith, prefix_len-le-length solid (drop s xs))) in
-      let b : e ≤ length xs = next_within h in
-      (omega arith, omega arith, omega arith)
-
-  pub next_part : (s ≡ e → ⊥) → take (e - s) (drop s xs) ≡ take (length (take (e - s) (drop s xs))) (drop s xs)
-  next_part h =
-      let k : length (take (e - s) (drop s xs)) ≡ e - s = length-take-le (e - s) (drop s xs) (omega (arith, prefix_len-le-length solid (drop s xs))) in
-      sym (ap (λ (m : ℕ). take m (drop s xs)) k)

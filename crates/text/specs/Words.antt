@@ -1,17 +1,13 @@
 -- Words that stand for themselves, and words by their beginning.
 use Rattle.std.specs.Prelude.{ℕ, Bool, false, cond, ◌||◌, List, [], ◌∷◌, map, length, Some, None, codes, filter, Option, ◌==◌, nat_lt}
+use Rattle.std.specs.List.{list_any}
 use Rattle.std.specs.Str.{bytes_eq}
 use Rattle.text.specs.Text.{Piece}
 use Rattle.text.specs.declared.word.Command.{Command}
 use Rattle.text.specs.declared.word.Command.TheVariants.{Model, Inputs, Outputs, Names, Latch, End}
 
--- some element passes the test
-abbrev pub any_of : {A : Type 0} → (A → Bool) → List A → Bool
-any_of p [] = false
-any_of p (x ∷ xs) = p x || any_of p xs
-
 abbrev pub one_of : List (List ℕ) → List ℕ → Bool
-one_of ws w = any_of (bytes_eq w) ws
+one_of ws w = list_any (bytes_eq w) ws
 
 abbrev pub latch_types : List (List ℕ)
 latch_types = codes "fe" ∷ codes "re" ∷ codes "ah" ∷ codes "al" ∷ codes "as" ∷ []
@@ -19,8 +15,8 @@ latch_types = codes "fe" ∷ codes "re" ∷ codes "ah" ∷ codes "al" ∷ codes 
 abbrev pub initial_values : List (List ℕ)
 initial_values = codes "0" ∷ codes "1" ∷ codes "2" ∷ codes "3" ∷ []
 
-abbrev pub command_named_lem : List ℕ → Option Command
-command_named_lem w =
+abbrev pub command_named : List ℕ → Option Command
+command_named w =
     cond (bytes_eq w (codes ".model")) (Some Model)
     (cond (bytes_eq w (codes ".inputs")) (Some Inputs)
     (cond (bytes_eq w (codes ".outputs")) (Some Outputs)
@@ -44,7 +40,7 @@ known None w = unknown w
 known (Some c) w = keyword c w
 
 abbrev pub lexeme_of : Piece → Lexeme
-lexeme_of w = cond (dotted w.bytes) (known (command_named_lem w.bytes) w) (plain w)
+lexeme_of w = cond (dotted w.bytes) (known (command_named w.bytes) w) (plain w)
 
 -- a name has at most 32 bytes
 abbrev pub is_long : Piece → Bool

@@ -1,5 +1,5 @@
 // Lines and words of a text.
-ghost use Rattle.std.specs.Prelude.{◌≡◌, ◌+◌, ◌-◌, ◌<◌, ◌≤◌, not, [], ◌∷◌, length, take, drop, IfSome, MatchOption};
+ghost use Rattle.std.specs.Prelude.{◌≡◌, ◌+◌, ◌-◌, ◌<◌, ◌≤◌, not, [], ◌∷◌, length, take, drop, position, IfSome, MatchOption};
 ghost use Rattle.std.specs.List.{prefix_len};
 ghost use Rattle.text.specs.Text.{newline, blank, solid, bad, words, bad_places};
 ghost use Rattle.text.specs.Words.{long_names};
@@ -13,7 +13,7 @@ use crate::word_fault::WordFault;
 fn is_blank(b: u8) -> bool
     ensures { result ≡ blank b }
 {
-    b == b' ' || b == b'\t' || b == b'\r'
+    matches!(b, b' ' | b'\t' | b'\r')
 }
 
 fn is_solid(b: u8) -> bool
@@ -32,29 +32,58 @@ fn is_bad(b: u8) -> bool
     }
 }
 
+/// The text from `from` on, which may lie past its end.
+fn after(text: &[u8], from: usize) -> &[u8]
+    ensures is { result.now ≡ drop from text.now }
+    ensures len { length result.now ≡ length text.now - from }
+{
+    text.get(from..).unwrap_or_default()
+}
+
+fn line_len(text: &[u8]) -> usize
+    ensures is { result ≡ prefix_len (λ b. not (newline b)) text.now }
+    ensures within { result ≤ length text.now }
+{
+    text.iter().take_while(|b| **b != b'\n').count()
+}
+
+fn blanks_len(text: &[u8]) -> usize
+    ensures is { result ≡ prefix_len blank text.now }
+    ensures within { result ≤ length text.now }
+{
+    text.iter().take_while(|b| is_blank(**b)).count()
+}
+
+fn word_len(text: &[u8]) -> usize
+    ensures is { result ≡ prefix_len solid text.now }
+    ensures within { result ≤ length text.now }
+{
+    text.iter().take_while(|b| is_solid(**b)).count()
+}
+
+/// The place of the first byte below `len` that a netlist may not hold.
+fn bad_at(text: &[u8], len: usize) -> Option<usize>
+    ensures is { result ≡ position bad (take len text.now) }
+    ensures within { IfSome result (λ i. i < length text.now) }
+{
+    text.iter().take(len).position(|b| is_bad(*b))
+}
+
 /// The place of the byte 10 that closes the line, or the text's length.
 pub fn line_end(text: &[u8], from: usize) -> usize
     ensures { result ≡ from + prefix_len (λ b. not (newline b)) (drop from text.now) }
 {
-    let mut end = from;
-    while end < text.len() && text[end] != b'\n' {
-        end += 1;
-    }
-    end
+    from + line_len(after(text, from))
 }
 
 /// Refuses the first byte from `from` up to `end` that a netlist may not hold, also in a comment.
 pub fn check_bytes(text: &[u8], from: usize, end: usize) -> Result<(), WordFault>
     ensures { result ≡ refusing BadByte (bad_places from (take (end - from) (drop from text.now))) }
 {
-    let mut at = from;
-    while at < end && at < text.len() {
-        if is_bad(text[at]) {
-            return Err(WordFault::BadByte(at));
-        }
-        at += 1;
+    match bad_at(after(text, from), end.saturating_sub(from)) {
+        Some(skipped) => Err(WordFault::BadByte(from + skipped)),
+        None => Ok(()),
     }
-    Ok(())
 }
 
 /// Refuses a name of over 32 bytes.
@@ -67,34 +96,14 @@ pub fn check_name(name: Word<'_>) -> Result<(), WordFault>
     Ok(())
 }
 
-fn blanks_end(text: &[u8], from: usize) -> usize
-    ensures { result ≡ from + prefix_len blank (drop from text.now) }
-{
-    let mut end = from;
-    while end < text.len() && is_blank(text[end]) {
-        end += 1;
-    }
-    end
-}
-
-fn word_end(text: &[u8], from: usize) -> usize
-    ensures { result ≡ from + prefix_len solid (drop from text.now) }
-{
-    let mut end = from;
-    while end < text.len() && is_solid(text[end]) {
-        end += 1;
-    }
-    end
-}
-
 /// The next word of the line that goes on at `from`.
 pub fn next_word<'a>(text: &'a [u8], from: usize) -> Option<Word<'a>>
     ensures found { MatchOption result (words from (drop from text.now) ≡ []) (λ w. words from (drop from text.now) ≡ piece_of w ∷ words (w.at + length w.text.now) (drop (w.at + length w.text.now) text.now)) }
     ensures part { IfSome result (λ w. w.text.now ≡ take (length w.text.now) (drop w.at text.now)) }
     ensures within { IfSome result (λ w. (from ≤ w.at) × (0 < length w.text.now) × (w.at + length w.text.now ≤ length text.now)) }
 {
-    let start = blanks_end(text, from);
-    let end = word_end(text, start);
+    let start = from + blanks_len(after(text, from));
+    let end = start + word_len(after(text, start));
     if start == end {
         None
     } else {

@@ -7,10 +7,10 @@ use Rattle.netlist.proofs.Passes.{any_more, any_found, any_none, no_span}
 use Rattle.netlist.proofs.names.is_among.Goals as goal
 
 pub loop-w-preserved : goal.loop-w-preserved
-loop-w-preserved c = any_more (bytes_eq c.args.name.now) (λ (w : Span). (piece_on c.args.text.now w).bytes) c.args.names.now c.loop-w.w-index _ no_span c.loop-w-test.true (c.if-is_text.ensures ∙ ap (λ (p : Piece). bytes_eq c.args.name.now p.bytes) c.word_at.ensures) c.loop-w.invariant
+loop-w-preserved c = any_more (bytes_eq c.args.name.now) (λ (w : Span). (piece_on c.args.text.now w).bytes) c.args.names.now c.loop-w.w-index _ no_span c.loop-w-test.true (c.if-eq.ensures ∙ ap (λ (p : Piece). bytes_eq c.args.name.now p.bytes) c.word_at.ensures) c.loop-w.invariant
 
-pub returns-then-is_text : goal.returns-then-is_text
-returns-then-is_text c = any_found (bytes_eq c.args.name.now) (λ (w : Span). (piece_on c.args.text.now w).bytes) c.args.names.now c.loop-w.w-index _ no_span c.loop-w-test.true (c.if-is_text.ensures ∙ ap (λ (p : Piece). bytes_eq c.args.name.now p.bytes) c.word_at.ensures) c.loop-w.invariant
+pub returns-then-eq : goal.returns-then-eq
+returns-then-eq c = any_found (bytes_eq c.args.name.now) (λ (w : Span). (piece_on c.args.text.now w).bytes) c.args.names.now c.loop-w.w-index _ no_span c.loop-w-test.true (c.if-eq.ensures ∙ ap (λ (p : Piece). bytes_eq c.args.name.now p.bytes) c.word_at.ensures) c.loop-w.invariant
 
 pub returns : goal.returns
 returns c = any_none (bytes_eq c.args.name.now) (λ (w : Span). (piece_on c.args.text.now w).bytes) c.args.names.now c.loop-w.w-index _ c.loop-w-test.false c.loop-w.invariant

@@ -4,10 +4,10 @@ use Rattle.netlist.proofs.Passes.{place_more, place_here, place_past}
 use Rattle.netlist.proofs.names.number_of.Goals as goal
 
 pub loop-i-preserved : goal.loop-i-preserved
-loop-i-preserved c = place_more c.args.text.now c.args.signals.now c.args.name.now c.loop-i.i _ c.index-signals-i.result (piece_of c.word_at.result) c.loop-i-test.true c.index-signals-i.is c.word_at.ensures c.if-is_text.ensures c.loop-i.invariant
+loop-i-preserved c = place_more c.args.text.now c.args.signals.now c.args.name.now c.loop-i.i _ c.index-signals-i.result (piece_of c.word_at.result) c.loop-i-test.true c.index-signals-i.is c.word_at.ensures c.if-eq.ensures c.loop-i.invariant
 
-pub returns-then-is_text : goal.returns-then-is_text
-returns-then-is_text c = record { within = omega arith; is = place_here c.args.text.now c.args.signals.now c.args.name.now c.loop-i.i _ c.index-signals-i.result (piece_of c.word_at.result) c.loop-i-test.true c.index-signals-i.is c.word_at.ensures c.if-is_text.ensures c.loop-i.invariant }
+pub returns-then-eq : goal.returns-then-eq
+returns-then-eq c = record { within = omega arith; is = place_here c.args.text.now c.args.signals.now c.args.name.now c.loop-i.i _ c.index-signals-i.result (piece_of c.word_at.result) c.loop-i-test.true c.index-signals-i.is c.word_at.ensures c.if-eq.ensures c.loop-i.invariant }
 
 pub returns : goal.returns
 returns c = record { within = omega arith; is = place_past c.args.text.now c.args.signals.now c.args.name.now c.loop-i.i _ (omega arith) c.loop-i.invariant }

@@ -8,5 +8,5 @@ returns c =
     record {
       pins = refl;
       count = refl;
-      cover = cover_more (cover_on c.args.gate) (row_on c.args.row) c.is_one.result _ c.is_one.ensures (matched_more c.args.gate.matched c.with_settings-matched.result c.args.row.marks.now c.with_settings-matched.ensures);
+      cover = cover_more (cover_on c.args.gate) (row_on c.args.row) c.is_one.result _ c.is_one.ensures (matched_more c.args.gate.matched c.with_settings.result c.args.row.marks.now c.with_settings.ensures);
     }

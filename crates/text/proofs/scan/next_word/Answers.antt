@@ -1,16 +1,13 @@
-use Rattle.text.proofs.Wordwise.{next_none, next_some, next_within, next_inside, next_part}
+use Rattle.text.specs.Text.{blank, solid}
+use Rattle.text.proofs.Wordwise.{reaches, next_none, next_some}
 use Rattle.text.proofs.scan.next_word.Goals as goal
 
-pub slice_bounds-result-end : goal.slice_bounds-result-end
-slice_bounds-result-end c = next_within c.args.text.now c.args.from _ _ c.blanks_end-start.ensures c.word_end-end.ensures c.if-start-end.false
+pub returns-then-start-end-clause-found : goal.returns-then-start-end-clause-found
+returns-then-start-end-clause-found c =
+    next_none c.args.text.now c.args.from _ _ (reaches blank _ _ _ _ c.after.ensures.is c.blanks_len.ensures.is)
+    (reaches solid _ _ _ _ c.after-2.ensures.is c.word_len.ensures.is) c.if-start-end.true
 
-pub returns-then-start-end : goal.returns-then-start-end
-returns-then-start-end c = record { within = tt; part = tt; found = next_none c.args.text.now c.args.from _ _ c.blanks_end-start.ensures c.word_end-end.ensures c.if-start-end.true }
-
-pub returns-else-start-end : goal.returns-else-start-end
-returns-else-start-end c =
-    record {
-      found = next_some c.args.text.now c.args.from _ _ c.blanks_end-start.ensures c.word_end-end.ensures c.if-start-end.false;
-      part = next_part c.args.text.now c.args.from _ _ c.blanks_end-start.ensures c.word_end-end.ensures c.if-start-end.false;
-      within = next_inside c.args.text.now c.args.from _ _ c.blanks_end-start.ensures c.word_end-end.ensures c.if-start-end.false;
-    }
+pub returns-else-start-end-clause-found : goal.returns-else-start-end-clause-found
+returns-else-start-end-clause-found c =
+    next_some c.args.text.now c.args.from _ _ (reaches blank _ _ _ _ c.after.ensures.is c.blanks_len.ensures.is)
+    (reaches solid _ _ _ _ c.after-2.ensures.is c.word_len.ensures.is) c.if-start-end.false
