@@ -10,7 +10,8 @@ use Rattle.gauge.specs.declared.matrix.EdgeMatrix.{EdgeMatrix}
 use Rattle.fields.specs.declared.edit.Edit.{Edit}
 use Rattle.fields.specs.declared.faults.FieldFault.{FieldFault}
 use Rattle.fields.specs.Fields.{size_of, file_limit}
-use Rattle.fields.specs.Lists.{Placed, placed, fields}
+use Rattle.fields.specs.Lists.{placed, fields}
+use Rattle.fields.specs.declared.read.Placed.{Placed}
 use Rattle.fields.specs.Says.{edit_of}
 use Rattle.fields.proofs.Cutting.{cut_between}
 use Rattle.fields.proofs.Refused.{Refused, edit_refused, said_refused}

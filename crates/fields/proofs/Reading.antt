@@ -4,7 +4,8 @@ use Rattle.std.proofs.lemmas.List.{length-drop}
 use Rattle.fields.specs.declared.faults.FieldFault.{FieldFault}
 use Rattle.fields.specs.Fields.{Content, size_of, field_at, next_place, with_next, field_from}
 use Rattle.fields.specs.Forms.{Form}
-use Rattle.fields.specs.Lists.{told, said_at, Placed, fields_from}
+use Rattle.fields.specs.Lists.{told, said_at, fields_from}
+use Rattle.fields.specs.declared.read.Placed.{Placed}
 use Rattle.fields.specs.Reading.{read_at, Reads}
 use Rattle.fields.proofs.Back.{back}
 use Rattle.fields.proofs.Opening.{whole, cut, ok_next, err_next}

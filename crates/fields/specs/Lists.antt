@@ -2,7 +2,7 @@
 use Rattle.std.specs.Prelude.{ℕ, zero, suc, ◌+◌, List, [], ◌∷◌, drop, Ok, Err, Result}
 use Rattle.fields.specs.declared.faults.FieldFault.{FieldFault}
 use Rattle.fields.specs.declared.read.Fields.{Fields}
-pub use Rattle.fields.specs.declared.read.Placed.{Placed}
+use Rattle.fields.specs.declared.read.Placed.{Placed}
 use Rattle.fields.specs.Fields.{Content, size_of, field_at}
 
 -- what an opened field says, or what it lacks

@@ -9,7 +9,8 @@ use Rattle.gauge.specs.declared.matrix.EdgeMatrix.{EdgeMatrix}
 use Rattle.weights.specs.declared.times.Times.{Times}
 use Rattle.network.specs.Net.{size, fanin, is_source_of}
 use Rattle.network.specs.declared.network.Network.{Network}
-use Rattle.fields.specs.Lists.{Placed, fields_from}
+use Rattle.fields.specs.Lists.{fields_from}
+use Rattle.fields.specs.declared.read.Placed.{Placed}
 use Rattle.fields.specs.Reading.{Reads}
 use Rattle.fields.specs.Says.{entry_of}
 use Rattle.fields.specs.Written.{written_entry}
