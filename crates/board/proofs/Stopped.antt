@@ -59,7 +59,7 @@ module _ {G : Type 0} (r : Ops G) (delays : ℕ → ℕ → G) (strip limit : �
   field_stays at (Ok e) x z c (b, step, is) there room = step_stays at e x z b c step is room
   field_stays at (Err d) x z c (same, is) there room =
       let field : c ≡ fault.Field d = cc in
-      (same, ap (λ (f : ScriptFault). (script_refusal f).place) field ∙ ap (λ (f : Refusal). f.place) (there.by d refl))
+      (same, ap (λ (f : ScriptFault). (script_refusal f).place) field ∙ ap (λ (f : Refusal). f.place) there)
 
   -- the field at which fields in order stop, and those before it, which are accepted and leave the same board
   record Stop (fs : List (Placed Edit)) (total : ℕ) (x y : View (EdgeMatrix G)) (d : ScriptFault) : Type 0 where
