@@ -4,7 +4,8 @@ use Rattle.gauge.specs.Semirings.{Ops}
 use Rattle.gauge.specs.declared.matrix.EdgeMatrix.{EdgeMatrix}
 use Rattle.fields.specs.declared.edit.Edit.{Edit}
 use Rattle.fields.specs.declared.faults.FieldFault.{FieldFault}
-use Rattle.fields.specs.Lists.{Placed, fields}
+use Rattle.fields.specs.Lists.{fields}
+use Rattle.fields.specs.declared.read.Placed.{Placed}
 use Rattle.fields.specs.Says.{edit_of}
 use Rattle.opening.specs.Boards.{View}
 use Rattle.book.specs.declared.edit_fault.EditFault.{EditFault}

@@ -7,7 +7,8 @@ use Rattle.gauge.specs.Semirings.{Ops}
 use Rattle.gauge.specs.declared.matrix.EdgeMatrix.{EdgeMatrix}
 use Rattle.fields.specs.declared.edit.Edit.{Edit}
 use Rattle.fields.specs.declared.faults.FieldFault.{FieldFault}
-use Rattle.fields.specs.Lists.{Placed, fields}
+use Rattle.fields.specs.Lists.{fields}
+use Rattle.fields.specs.declared.read.Placed.{Placed}
 use Rattle.fields.specs.Says.{edit_of}
 use Rattle.fields.proofs.Cutting.{cut_between}
 use Rattle.fields.proofs.Refused.{Refused}
@@ -58,7 +59,7 @@ module _ {G : Type 0} (r : Ops G) (delays : ℕ → ℕ → G) (strip limit : �
   field_stays at (Ok e) x z c (b, step, is) there room = step_stays at e x z b c step is room
   field_stays at (Err d) x z c (same, is) there room =
       let field : c ≡ fault.Field d = cc in
-      (same, ap (λ (f : ScriptFault). (script_refusal f).place) field ∙ ap (λ (f : Refusal). f.place) (there.by d refl))
+      (same, ap (λ (f : ScriptFault). (script_refusal f).place) field ∙ ap (λ (f : Refusal). f.place) there)
 
   -- the field at which fields in order stop, and those before it, which are accepted and leave the same board
   record Stop (fs : List (Placed Edit)) (total : ℕ) (x y : View (EdgeMatrix G)) (d : ScriptFault) : Type 0 where

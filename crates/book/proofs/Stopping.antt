@@ -10,10 +10,12 @@ use Rattle.gauge.specs.declared.matrix.EdgeMatrix.{EdgeMatrix}
 use Rattle.fields.specs.declared.edit.Edit.{Edit}
 use Rattle.fields.specs.declared.faults.FieldFault.{FieldFault}
 use Rattle.fields.specs.Fields.{size_of, file_limit}
-use Rattle.fields.specs.Lists.{Placed, placed, fields}
+use Rattle.fields.specs.Forms.{edit_form}
+use Rattle.fields.specs.Lists.{placed, fields}
+use Rattle.fields.specs.declared.read.Placed.{Placed}
 use Rattle.fields.specs.Says.{edit_of}
 use Rattle.fields.proofs.Cutting.{cut_between}
-use Rattle.fields.proofs.Refused.{Refused, edit_refused, said_refused}
+use Rattle.fields.proofs.Refused.{Refused, said_refused}
 use Rattle.book.specs.declared.edit_fault.EditFault.{EditFault}
 use Rattle.book.specs.declared.script_fault.ScriptFault.{ScriptFault}
 use Rattle.book.specs.declared.script_fault.ScriptFault.TheVariants as fault
@@ -32,7 +34,7 @@ RefusedThere f = Refused f.at f.said
 placed_refused : (skip at : ℕ) (bytes : List ℕ) → AllByRecursion RefusedThere (placed edit_of skip at bytes)
 placed_refused zero at [] = tt
 placed_refused (suc skip) at [] = tt
-placed_refused zero at (x ∷ xs) = (said_refused edit_of edit_refused at (x ∷ xs), placed_refused (2 + size_of (x ∷ xs)) (at + 1) xs)
+placed_refused zero at (x ∷ xs) = (said_refused edit_form at (x ∷ xs), placed_refused (2 + size_of (x ∷ xs)) (at + 1) xs)
 placed_refused (suc skip) at (x ∷ xs) = placed_refused skip (at + 1) xs
 
 pub fields_refused : (file : List ℕ) → AllByRecursion RefusedThere (fields edit_of file)
@@ -74,7 +76,7 @@ module _ {G : Type 0} (r : Ops G) (delays : ℕ → ℕ → G) (l : Lent) where
       ap (λ (x : ScriptFault). (script_refusal x).place) bad.2 ∙ judge_place (edge_ops r) book l at e bad.0 room judged
   field_place book at (Err f) d there room h =
       let same : d ≡ fault.Field f = cc in
-      ap (λ (x : ScriptFault). (script_refusal x).place) same ∙ ap (λ (x : Refusal). x.place) (there.by f refl)
+      ap (λ (x : ScriptFault). (script_refusal x).place) same ∙ ap (λ (x : Refusal). x.place) there
 
   -- the field at which fields in order stop, and those before it, which are accepted and leave the same book
   record Stop (book : Book (EdgeMatrix G)) (total : ℕ) (fs : List (Placed Edit)) (d : ScriptFault) : Type 0 where

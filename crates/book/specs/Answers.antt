@@ -8,7 +8,8 @@ use Rattle.paths.specs.Edits.{edit_count}
 use Rattle.fields.specs.declared.edit.Edit.{Edit}
 use Rattle.fields.specs.declared.faults.FieldFault.{FieldFault}
 use Rattle.fields.specs.Fields.{file_limit}
-use Rattle.fields.specs.Lists.{Placed, fields}
+use Rattle.fields.specs.Lists.{fields}
+use Rattle.fields.specs.declared.read.Placed.{Placed}
 use Rattle.fields.specs.Says.{edit_of}
 use Rattle.book.specs.declared.edit_fault.EditFault.{EditFault}
 use Rattle.book.specs.declared.script_fault.ScriptFault.{ScriptFault}

@@ -7,7 +7,8 @@ use Rattle.fields.specs.declared.entry.Entry.{Entry}
 use Rattle.fields.specs.declared.entry.Entry.TheVariants as entry
 use Rattle.fields.specs.declared.faults.FieldFault.{FieldFault}
 use Rattle.fields.specs.Fields.{file_limit}
-use Rattle.fields.specs.Lists.{Placed, fields}
+use Rattle.fields.specs.Lists.{fields}
+use Rattle.fields.specs.declared.read.Placed.{Placed}
 use Rattle.fields.specs.Says.{entry_of}
 use Rattle.delays.specs.declared.faults.DelayFault.{DelayFault}
 use Rattle.delays.specs.Outlines.{Outline, Part, Pin, Source, has, same_part}

@@ -4,7 +4,8 @@ use Rattle.std.specs.List.{AllByRecursion}
 use Rattle.fields.specs.declared.entry.Entry.{Entry}
 use Rattle.fields.specs.declared.entry.Entry.TheVariants as entry
 use Rattle.fields.specs.declared.faults.FieldFault.{FieldFault}
-use Rattle.fields.specs.Lists.{Placed, fields}
+use Rattle.fields.specs.Lists.{fields}
+use Rattle.fields.specs.declared.read.Placed.{Placed}
 use Rattle.fields.specs.Says.{entry_of}
 use Rattle.delays.specs.Outlines.{Outline, Part, Pin, Source, has}
 use Rattle.delays.specs.Tables.{naming, table_of}

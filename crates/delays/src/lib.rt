@@ -4,4 +4,5 @@
 pub mod check;
 pub mod faults;
 pub mod laws;
+mod marks;
 pub mod parts;

@@ -1,28 +1,12 @@
 -- What is written is read back.
-use Rattle.std.proofs.Common.{◌≡◌, ℕ, ◌+◌, ◌≤◌, List, [], ◌∷◌, ◌++◌, length, Ok, Result, sym, refl, ap, ◌∙◌, arith, le-leb}
-use Rattle.std.specs.Int.Digits.{number_from_digits}
+use Rattle.std.proofs.Common.{◌≡◌, ℕ, ◌+◌, ◌≤◌, List, ◌++◌, length, Ok, Result, sym, ap, ◌∙◌, subst, arith, le-leb}
 use Rattle.std.proofs.lemmas.List.{take_at, length-append}
 use Rattle.std.proofs.lemmas.Bool.{cond-true}
-use Rattle.weights.specs.declared.times.Times.{Times}
-use Rattle.fields.specs.declared.entry.Clock.{Clock}
-use Rattle.fields.specs.declared.entry.Entry.{Entry}
-use Rattle.fields.specs.declared.entry.Entry.TheVariants as entry
-use Rattle.fields.specs.declared.edit.Edit.{Edit}
-use Rattle.fields.specs.declared.edit.Edit.TheVariants as edit
 use Rattle.fields.specs.declared.faults.FieldFault.{FieldFault}
 use Rattle.fields.specs.Fields.{Content, size_of, field_at}
 use Rattle.fields.specs.Lists.{told, said_at}
-use Rattle.fields.specs.Says.{times_of, clock_of, entry_of, edit_of}
-use Rattle.fields.specs.Written.{bytes_of, field_of, four_times, three_times, written_entry, written_edit}
-
-word_back : (n : ℕ) → number_from_digits 256 (bytes_of 4 n) ≡ n
-word_back n = omega arith
-
-times_back : (t : Times) → times_of (four_times t) ≡ t
-times_back t = simp word_back
-
-clock_back : (c : Clock) → clock_of (three_times c) ≡ c
-clock_back c = simp word_back
+use Rattle.fields.specs.Forms.{Form}
+use Rattle.fields.specs.Written.{field_of}
 
 -- the bytes of a field that says x, before other bytes, and its length
 pub record Back {A : Type 0} (says : Content → Result A FieldFault) (bytes more : List ℕ) (x : A) : Type 0 where
@@ -48,13 +32,9 @@ field_back says tag value more x e =
       size = omega (arith, size_back tag value more);
     }
 
-pub entry_back : (x : Entry) (more : List ℕ) → Back entry_of (written_entry x) more x
-entry_back (entry.Clock c) more = field_back entry_of 0x01 (three_times c) more _ (λ at. ap (λ (v : Clock). Ok (entry.Clock v)) (clock_back c))
-entry_back (entry.Delay g p t) more = field_back entry_of 0x02 (g ∷ p ∷ four_times t) more _ (λ at. ap (λ (v : Times). Ok (entry.Delay g p v)) (times_back t))
-entry_back (entry.Start s t) more = field_back entry_of 0x03 (s ∷ four_times t) more _ (λ at. ap (λ (v : Times). Ok (entry.Start s v)) (times_back t))
-
-pub edit_back : (x : Edit) (more : List ℕ) → Back edit_of (written_edit x) more x
-edit_back (edit.SetDelay g p t) more = field_back edit_of 0x11 (g ∷ p ∷ four_times t) more _ (λ at. ap (λ (v : Times). Ok (edit.SetDelay g p v)) (times_back t))
-edit_back (edit.SetStart s t) more = field_back edit_of 0x12 (s ∷ four_times t) more _ (λ at. ap (λ (v : Times). Ok (edit.SetStart s v)) (times_back t))
-edit_back (edit.Rewire g p f) more = field_back edit_of 0x13 (g ∷ p ∷ f ∷ []) more _ (λ at. refl)
-edit_back (edit.Cut g p) more = field_back edit_of 0x14 (g ∷ p ∷ []) more _ (λ at. refl)
+pub back : {A : Type 0} {says : Content → Result A FieldFault} {written : A → List ℕ} → Form says written → (x : A) (more : List ℕ)
+    → Back says (written x) more x
+back {says = says} form x more =
+    let b = form.back x in
+    let P : List ℕ → Type 0 = λ bytes. Back says bytes more x in
+    subst P (sym b.is) (field_back says b.tag b.value more x b.says_it)

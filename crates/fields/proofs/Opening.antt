@@ -31,6 +31,10 @@ whole bytes at f e =
     let z : ◌≡◌ {A = ℕ} 0 1 = cc in absurd (omega arith))
     (cases_Bool (leb (3 + size_of bytes) (length bytes)))
 
+-- a field that does not open is longer than the bytes
+pub cut : (bytes : List ℕ) (at : ℕ) (d : FieldFault) → field_at bytes at ≡ Err d → length bytes ≤ 3 + size_of bytes
+cut bytes at d e = grind arith
+
 -- an answer with a next place, taken apart
 pub ok_next : {A : Type 0} (r : Result A FieldFault) (n next : ℕ) (x : A) → Ok (x, next) ≡ with_next n r
     → (r ≡ Ok x) × (next ≡ n)

@@ -6,7 +6,8 @@ use Rattle.std.proofs.lemmas.List.{length-drop, length-take-le, drop-drop, drop_
 use Rattle.std.proofs.lemmas.Bool.{cond-true, cases_lt}
 use Rattle.fields.specs.declared.faults.FieldFault.{FieldFault}
 use Rattle.fields.specs.Fields.{Content, size_of, field_at, next_place}
-use Rattle.fields.specs.Lists.{told, said_at, Placed, placed, fields_from, fields}
+use Rattle.fields.specs.Lists.{told, said_at, placed, fields_from, fields}
+use Rattle.fields.specs.declared.read.Placed.{Placed}
 
 -- more than a field's bytes make no difference to it
 module _ (x : ℕ) (xs : List ℕ) (n : ℕ) (enough : 2 + size_of (x ∷ xs) ≤ n) where

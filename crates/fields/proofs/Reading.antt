@@ -1,16 +1,16 @@
 -- What follows from the answer of a reading.
-use Rattle.std.proofs.Common.{◌≡◌, ℕ, ◌+◌, ◌<◌, ◌≤◌, List, ◌∷◌, ◌++◌, length, drop, IfOk, Ok, Err, Result, sym, refl, ap, ◌∙◌, arith}
+use Rattle.std.proofs.Common.{◌≡◌, ℕ, ◌+◌, ◌<◌, ◌≤◌, List, ◌∷◌, ◌++◌, length, drop, IfOk, Ok, Err, Result, sym, refl, ap, ◌∙◌, subst, arith}
 use Rattle.std.proofs.lemmas.List.{length-drop}
 use Rattle.fields.specs.declared.faults.FieldFault.{FieldFault}
 use Rattle.fields.specs.Fields.{Content, size_of, field_at, next_place, with_next, field_from}
-use Rattle.fields.specs.Lists.{told, said_at, Placed, fields_from}
+use Rattle.fields.specs.Forms.{Form}
+use Rattle.fields.specs.Lists.{told, said_at, fields_from}
+use Rattle.fields.specs.declared.read.Placed.{Placed}
 use Rattle.fields.specs.Reading.{read_at, Reads}
-use Rattle.fields.specs.Says.{entry_of, edit_of}
-use Rattle.fields.specs.Written.{written_entry, written_edit}
-use Rattle.fields.proofs.Back.{Back, entry_back, edit_back}
-use Rattle.fields.proofs.Opening.{whole, ok_next, err_next}
-use Rattle.fields.proofs.Order.{fields_more}
-use Rattle.fields.proofs.Refused.{Refused, entry_refused, edit_refused, said_refused}
+use Rattle.fields.proofs.Back.{back}
+use Rattle.fields.proofs.Opening.{whole, cut, ok_next, err_next}
+use Rattle.fields.proofs.Order.{fields_more, fields_none}
+use Rattle.fields.proofs.Refused.{Refused, said_refused}
 
 told_ok : {A : Type 0} (says : Content → Result A FieldFault) (r : Result Content FieldFault) (x : A)
     → told says r ≡ Ok x → (f : Content) × (Ok f ≡ r)
@@ -49,10 +49,10 @@ module _ {A : Type 0} (says : Content → Result A FieldFault) (file : List ℕ)
             ∙ ap (λ (r : Result A FieldFault). record { at = at; said = r } ∷ fields_from says (next_place file at) file) q,
       )
 
-  back : (written : A → List ℕ) → ((x : A) (more : List ℕ) → Back says (written x) more x)
+  read_back : {written : A → List ℕ} → Form says written
       → (x : A) (more : List ℕ) → drop at file ≡ written x ++ more → read_at says file at ≡ Ok (x, at + length (written x))
-  back written backs x more h =
-      let b = backs x more in
+  read_back {written} form x more h =
+      let b = back form x more in
       ap (λ (rest : List ℕ). with_next (at + (3 + size_of rest)) (said_at says rest at)) h
       ∙ (ap (with_next (at + (3 + size_of (written x ++ more)))) (b.said at) ∙ ap (λ (n : ℕ). Ok (x, at + n)) b.size)
 
@@ -70,16 +70,26 @@ module _ {A : Type 0} (says : Content → Result A FieldFault) (file : List ℕ)
       let q = err_next (field_at (drop at file) at) _ d e in
       sym (ap (λ (r : Result Content FieldFault). with_next (next_place file at) (told says r)) q)
 
--- what is to be known of a file's fields
-pub record Form {A : Type 0} (says : Content → Result A FieldFault) (written : A → List ℕ) : Type 0 where
-  pub backs : (x : A) (more : List ℕ) → Back says (written x) more x
-  pub refused : (f : Content) → Refused f.at (says f)
+-- one field more of a file
+module _ {A : Type 0} (says : Content → Result A FieldFault) (file : List ℕ) (at : ℕ) (inside : at < length file) where
+  pub step_open : (next : ℕ) (f : Content) → Ok (f, next) ≡ field_from file at → (said : Result A FieldFault) → said ≡ says f
+      → fields_from says at file ≡ record { at = at; said = said } ∷ fields_from says next file
+  step_open next f e said h =
+      let p = ok_next (field_at (drop at file) at) _ next f e in
+      fields_more says file at inside
+      ∙ (ap (λ (r : Result Content FieldFault). record { at = at; said = told says r } ∷ fields_from says (next_place file at) file) p.0
+      ∙ (ap (λ (r : Result A FieldFault). record { at = at; said = r } ∷ fields_from says (next_place file at) file) (sym h)
+      ∙ ap (λ (n : ℕ). record { at = at; said = said } ∷ fields_from says n file) (sym p.1)))
 
-pub entry_form : Form entry_of written_entry
-entry_form = record { backs = entry_back; refused = entry_refused }
-
-pub edit_form : Form edit_of written_edit
-edit_form = record { backs = edit_back; refused = edit_refused }
+  pub step_shut : (d : FieldFault) → Err d ≡ field_from file at
+      → fields_from says at file ≡ record { at = at; said = Err d } ∷ fields_from says (length file) file
+  step_shut d e =
+      let q = err_next (field_at (drop at file) at) _ d e in
+      let past : length file ≤ next_place file at = omega (arith, cut (drop at file) at d q, length-drop at file) in
+      fields_more says file at inside
+      ∙ (ap (λ (r : Result Content FieldFault). record { at = at; said = told says r } ∷ fields_from says (next_place file at) file) q
+      ∙ ap (λ (fs : List (Placed A)). record { at = at; said = Err d } ∷ fs)
+      (fields_none says file (next_place file at) past ∙ sym (fields_none says file (length file) (omega arith))))
 
 module _ {A : Type 0} {says : Content → Result A FieldFault} {written : A → List ℕ} (form : Form says written) (file : List ℕ) (at : ℕ) where
   -- all that is promised, from the answer
@@ -90,8 +100,10 @@ module _ {A : Type 0} {says : Content → Result A FieldFault} {written : A → 
         onward = onward says file at r e;
         goes = λ x next h. goes says file at x next (sym h ∙ e);
         stops = λ d h inside. stops says file at d (sym h ∙ e) inside;
-        refused = λ d h. (said_refused says form.refused at (drop at file)).by d (err_next (said_at says (drop at file) at) _ d (sym h ∙ e));
-        back = λ x more h. e ∙ back says file at written form.backs x more h;
+        refused = λ d h.
+            let P : Result A FieldFault → Type 0 = λ said. Refused at said in
+            subst P (err_next (said_at says (drop at file) at) _ d (sym h ∙ e)) (said_refused form at (drop at file));
+        back = λ x more h. e ∙ read_back says file at form x more h;
       }
 
   pub reads_open : (next : ℕ) (f : Content) → Ok (f, next) ≡ field_from file at

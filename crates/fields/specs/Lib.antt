@@ -1,5 +1,6 @@
 pub mod Faults
 pub mod Fields
+pub mod Forms
 pub mod Laws
 pub mod Lists
 pub mod Reading

@@ -1,6 +1,8 @@
 -- The fields of a file, one after another. `says` is what a field says in such a file.
 use Rattle.std.specs.Prelude.{ℕ, zero, suc, ◌+◌, List, [], ◌∷◌, drop, Ok, Err, Result}
 use Rattle.fields.specs.declared.faults.FieldFault.{FieldFault}
+use Rattle.fields.specs.declared.read.Fields.{Fields}
+use Rattle.fields.specs.declared.read.Placed.{Placed}
 use Rattle.fields.specs.Fields.{Content, size_of, field_at}
 
 -- what an opened field says, or what it lacks
@@ -11,11 +13,6 @@ told says (Err d) = Err d
 -- what the field at the front of the bytes says, whose place is `at`
 abbrev pub said_at : {A : Type 0} → (Content → Result A FieldFault) → List ℕ → ℕ → Result A FieldFault
 said_at says bytes at = told says (field_at bytes at)
-
--- a field of a file: the place of its tag, and what it says or lacks
-pub record Placed (A : Type 0) : Type 0 where
-  pub at : ℕ
-  pub said : Result A FieldFault
 
 -- the fields in the bytes from the place `at` on, of which the first `skip` belong to the field before
 abbrev pub placed : {A : Type 0} → (Content → Result A FieldFault) → (skip at : ℕ) → List ℕ → List (Placed A)
@@ -31,3 +28,7 @@ fields_from says at file = placed says 0 at (drop at file)
 -- all fields of a file
 abbrev pub fields : {A : Type 0} → (Content → Result A FieldFault) → List ℕ → List (Placed A)
 fields says file = fields_from says 0 file
+
+-- the fields that are still to come
+abbrev pub rest : {A : Type 0} → (Content → Result A FieldFault) → Fields A → List (Placed A)
+rest says s = fields_from says s.at s.file.now

@@ -3,7 +3,8 @@ use Rattle.std.specs.Prelude.{◌≡◌, ℕ, ◌+◌, ◌<◌, ◌≤◌, List,
 use Rattle.fields.specs.declared.faults.FieldFault.{FieldFault}
 use Rattle.fields.specs.Faults.{bad_field, refusal_of}
 use Rattle.fields.specs.Fields.{Content, next_place, with_next}
-use Rattle.fields.specs.Lists.{Placed, said_at, fields_from}
+use Rattle.fields.specs.Lists.{said_at, fields_from}
+use Rattle.fields.specs.declared.read.Placed.{Placed}
 
 -- what the field at the place says, and the place after it
 abbrev pub read_at : {A : Type 0} → (Content → Result A FieldFault) → List ℕ → ℕ → Result (A × ℕ) FieldFault

@@ -1,11 +1,11 @@
 ghost use Rattle.std.specs.Prelude.{◌≡◌, ◌≤◌, length};
-ghost use Rattle.fields.specs.Fields.{content_of};
-ghost use Rattle.fields.specs.Reading.{Reads};
+ghost use Rattle.fields.specs.Forms.{entry_form};
 ghost use Rattle.fields.specs.Says.{clock_of, entry_of};
 ghost use Rattle.fields.specs.Written.{written_entry};
 
 use crate::faults::FieldFault;
-use crate::field::{Field, field_at, stray_tag};
+use crate::field::{Field, stray_tag};
+use crate::says::Says;
 use crate::words::{read_times, read_word};
 use weights::times::Times;
 
@@ -40,32 +40,28 @@ fn read_clock(bytes: &[u8]) -> Clock
     }
 }
 
-/// What a field says in a delay table.
-pub fn decode_entry(field: Field) -> Result<Entry, FieldFault>
-    ensures { result ≡ entry_of (content_of field.entry) }
-{
-    let at = field.at;
-    match (field.tag, field.value) {
-        (0x01, clock) if clock.len() == 12 => Ok(Entry::Clock(read_clock(clock))),
-        (0x02, [gate, pin, times @ ..]) if times.len() == 16 => Ok(Entry::Delay {
-            gate: u16::from(*gate),
-            pin: *pin,
-            times: read_times(times),
-        }),
-        (0x03, [source, times @ ..]) if times.len() == 16 => Ok(Entry::Start {
-            source: u16::from(*source),
-            times: read_times(times),
-        }),
-        (0x01..=0x03, _) => Err(FieldFault::WrongLength { at }),
-        (tag, _) => Err(stray_tag(tag, at)),
-    }
-}
+impl Says for Entry {
+    ghost says = { entry_of };
 
-/// What the field at a place of a delay table says, and where the next one begins.
-pub fn read_entry(file: &[u8], at: usize) -> Result<(Entry, usize), FieldFault>
-    ensures { Reads entry_of written_entry file.now at result }
-{
-    let (field, next) = field_at(file, at)?;
-    let entry = decode_entry(field)?;
-    Ok((entry, next))
+    ghost written = { written_entry };
+
+    fn decode(field: Field<'_>) -> Result<Entry, FieldFault> {
+        let at = field.at;
+        match (field.tag, field.value) {
+            (0x01, clock) if clock.len() == 12 => Ok(Entry::Clock(read_clock(clock))),
+            (0x02, [gate, pin, times @ ..]) if times.len() == 16 => Ok(Entry::Delay {
+                gate: u16::from(*gate),
+                pin: *pin,
+                times: read_times(times),
+            }),
+            (0x03, [source, times @ ..]) if times.len() == 16 => Ok(Entry::Start {
+                source: u16::from(*source),
+                times: read_times(times),
+            }),
+            (0x01..=0x03, _) => Err(FieldFault::WrongLength { at }),
+            (tag, _) => Err(stray_tag(tag, at)),
+        }
+    }
+
+    ghost form = { entry_form };
 }

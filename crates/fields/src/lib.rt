@@ -6,4 +6,6 @@ pub mod entry;
 pub mod faults;
 pub mod field;
 pub mod laws;
+pub mod read;
+pub mod says;
 mod words;

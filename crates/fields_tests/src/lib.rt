@@ -4,11 +4,12 @@
 #[cfg(test)]
 mod tests {
     use fault::cause::Cause;
-    use fault::refusal::*;
-    use fields::edit::*;
-    use fields::entry::*;
-    use fields::faults::*;
+    use fault::refusal::Refusal;
+    use fields::edit::Edit;
+    use fields::entry::{Clock, Entry};
+    use fields::faults::FieldFault;
     use fields::field::too_long;
+    use fields::read::read_field;
     use weights::times::Times;
 
     // 0x12345678, 7, 256, 4294967290
@@ -27,7 +28,10 @@ mod tests {
             setup: 50,
             hold: 20,
         };
-        assert_eq!(rt; read_entry(&file, 0), Ok((Entry::Clock(clock), 15)));
+        assert_eq!(rt;
+            read_field::<Entry>(&file, 0),
+            Ok((Entry::Clock(clock), 15))
+        );
     }
 
     #[test]
@@ -36,11 +40,11 @@ mod tests {
         let edit = b"\x11\0\x12\xFE\x03\x12\x34\x56\x78\0\0\0\x07\0\0\x01\0\xFF\xFF\xFF\xFA";
         let (gate, pin, times) = (254, 3, TIMES);
         assert_eq!(rt;
-            read_entry(entry, 0),
+            read_field::<Entry>(entry, 0),
             Ok((Entry::Delay { gate, pin, times }, 21))
         );
         assert_eq!(rt;
-            read_edit(edit, 0),
+            read_field::<Edit>(edit, 0),
             Ok((Edit::SetDelay { gate, pin, times }, 21))
         );
     }
@@ -51,11 +55,11 @@ mod tests {
         let edit = b"\x12\0\x11\x09\x12\x34\x56\x78\0\0\0\x07\0\0\x01\0\xFF\xFF\xFF\xFA";
         let (source, times) = (9, TIMES);
         assert_eq!(rt;
-            read_entry(entry, 0),
+            read_field::<Entry>(entry, 0),
             Ok((Entry::Start { source, times }, 20))
         );
         assert_eq!(rt;
-            read_edit(edit, 0),
+            read_field::<Edit>(edit, 0),
             Ok((Edit::SetStart { source, times }, 20))
         );
     }
@@ -68,9 +72,9 @@ mod tests {
             pin: 1,
             feeder: 2,
         };
-        assert_eq!(rt; read_edit(&file, 0), Ok((rewire, 6)));
+        assert_eq!(rt; read_field::<Edit>(&file, 0), Ok((rewire, 6)));
         assert_eq!(rt;
-            read_edit(&file, 6),
+            read_field::<Edit>(&file, 6),
             Ok((Edit::Cut { gate: 5, pin: 0 }, 11))
         );
     }
@@ -78,7 +82,7 @@ mod tests {
     #[test]
     fn one_byte_short(rt: HostRuntime) {
         assert_eq!(rt;
-            read_edit(&[0x14, 0, 2, 5], 0),
+            read_field::<Edit>(&[0x14, 0, 2, 5], 0),
             Err(FieldFault::CutOff { at: 0 })
         );
     }
@@ -86,7 +90,10 @@ mod tests {
     #[test]
     fn one_byte_too_long(rt: HostRuntime) {
         let file = [0x14, 0, 3, 5, 0, 0];
-        assert_eq!(rt; read_edit(&file, 0), Err(FieldFault::WrongLength { at: 0 }));
+        assert_eq!(rt;
+            read_field::<Edit>(&file, 0),
+            Err(FieldFault::WrongLength { at: 0 })
+        );
     }
 
     // The high byte of the length counts 256.
@@ -96,21 +103,33 @@ mod tests {
         file[0] = 0x14;
         file[1] = 1;
         file[2] = 2;
-        assert_eq!(rt; read_edit(&file, 0), Err(FieldFault::WrongLength { at: 0 }));
+        assert_eq!(rt;
+            read_field::<Edit>(&file, 0),
+            Err(FieldFault::WrongLength { at: 0 })
+        );
     }
 
     #[test]
     fn two_bytes_left_over(rt: HostRuntime) {
         let file = [0x14, 0, 2, 5, 0, 0x14, 0];
-        assert_eq!(rt; read_edit(&file, 0), Ok((Edit::Cut { gate: 5, pin: 0 }, 5)));
-        assert_eq!(rt; read_edit(&file, 5), Err(FieldFault::CutOff { at: 5 }));
+        assert_eq!(rt;
+            read_field::<Edit>(&file, 0),
+            Ok((Edit::Cut { gate: 5, pin: 0 }, 5))
+        );
+        assert_eq!(rt;
+            read_field::<Edit>(&file, 5),
+            Err(FieldFault::CutOff { at: 5 })
+        );
     }
 
     #[test]
     fn past_the_end(rt: HostRuntime) {
-        assert_eq!(rt; read_entry(&[], 0), Err(FieldFault::CutOff { at: 0 }));
         assert_eq!(rt;
-            read_edit(&[0x14, 0, 2, 5, 0], 9),
+            read_field::<Entry>(&[], 0),
+            Err(FieldFault::CutOff { at: 0 })
+        );
+        assert_eq!(rt;
+            read_field::<Edit>(&[0x14, 0, 2, 5, 0], 9),
             Err(FieldFault::CutOff { at: 9 })
         );
     }
@@ -118,7 +137,7 @@ mod tests {
     #[test]
     fn unknown_tag(rt: HostRuntime) {
         assert_eq!(rt;
-            read_edit(&[0x15, 0, 0], 0),
+            read_field::<Edit>(&[0x15, 0, 0], 0),
             Err(FieldFault::UnknownTag { at: 0 })
         );
     }
@@ -126,8 +145,14 @@ mod tests {
     #[test]
     fn tag_of_the_other_file(rt: HostRuntime) {
         let file = [0x03, 0, 0, 0x14, 0, 2, 5, 0];
-        assert_eq!(rt; read_edit(&file, 0), Err(FieldFault::Misplaced { at: 0 }));
-        assert_eq!(rt; read_entry(&file, 3), Err(FieldFault::Misplaced { at: 3 }));
+        assert_eq!(rt;
+            read_field::<Edit>(&file, 0),
+            Err(FieldFault::Misplaced { at: 0 })
+        );
+        assert_eq!(rt;
+            read_field::<Entry>(&file, 3),
+            Err(FieldFault::Misplaced { at: 3 })
+        );
     }
 
     #[test]

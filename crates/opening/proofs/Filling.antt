@@ -9,16 +9,12 @@ use Rattle.gauge.specs.declared.matrix.EdgeMatrix.{EdgeMatrix}
 use Rattle.weights.specs.declared.times.Times.{Times}
 use Rattle.network.specs.Net.{size, fanin, is_source_of}
 use Rattle.network.specs.declared.network.Network.{Network}
-use Rattle.fields.specs.Lists.{Placed, fields_from}
-use Rattle.fields.specs.Reading.{Reads}
-use Rattle.fields.specs.Says.{entry_of}
-use Rattle.fields.specs.Written.{written_entry}
+use Rattle.fields.specs.declared.read.Placed.{Placed}
 use Rattle.fields.specs.declared.entry.Entry.{Entry}
 use Rattle.fields.specs.declared.entry.Entry.TheVariants as entry
 use Rattle.fields.specs.declared.faults.FieldFault.{FieldFault}
-use Rattle.fields.proofs.Order.{fields_none}
 use Rattle.delays.specs.Laws.{Fits, WellNamed}
-use Rattle.delays.specs.Outlines.{Outline, Part, Pin, Source, outline_of}
+use Rattle.delays.specs.Outlines.{Part, Pin, Source, outline_of}
 use Rattle.delays.specs.Tables.{names_in, names, naming, no_times_lem, times_in, first_times}
 use Rattle.delays.proofs.Marking.{small}
 use Rattle.opening.specs.Cells.{table, start_at, weight_at_lem, weight_in}
@@ -210,23 +206,3 @@ module _ {G : Type 0} (r : Ops G) (delays : ℕ → ℕ → G) (net : Network) w
     weights_filled =
         filled net (weights_with r delays net) (record { long = weights_long; past = weights_past }) pin_in (weight_in r delays net)
         (λ i h. weight_holds i) d fs well old cells after
-
--- one field more is written
-pub written_more : {V : Type 0} (writes : Result Entry FieldFault → List V → List V) (file : List ℕ) (at next : ℕ) (e : Entry) (cells cells' goal : List V)
-    → fields_from entry_of at file ≡ record { at = at; said = Ok e } ∷ fields_from entry_of next file → cells' ≡ writes (Ok e) cells
-    → after_all writes cells (fields_from entry_of at file) ≡ goal → after_all writes cells' (fields_from entry_of next file) ≡ goal
-written_more writes file at next e cells cells' goal goes is was =
-    ap (λ xs. after_all writes xs (fields_from entry_of next file)) is ∙ sym (ap (after_all writes cells) goes) ∙ was
-
--- no field is left to write
-pub written_all : {V : Type 0} (writes : Result Entry FieldFault → List V → List V) (file : List ℕ) (at : ℕ) (cells goal : List V) → length file ≤ at
-    → after_all writes cells (fields_from entry_of at file) ≡ goal → cells ≡ goal
-written_all writes file at cells goal past was = sym (ap (after_all writes cells) (fields_none entry_of file at past)) ∙ was
-
--- where the fields fit, one is always read
-pub never_stops : (outline : Outline) (file : List ℕ) (at : ℕ) → AllByRecursion (λ f. Fits outline f.said) (fields_from entry_of at file) → at < length file
-    → (r : Result (Entry × ℕ) FieldFault) → Reads entry_of written_entry file at r → ((x : Entry × ℕ) → r ≡ Ok x → ⊥) → ⊥
-never_stops outline file at fit inside (Ok x) reads no-entry = no-entry x refl
-never_stops outline file at fit inside (Err d) reads no-entry =
-    let P : List (Placed Entry) → Type 0 = λ fs. AllByRecursion (λ f. Fits outline f.said) fs in
-    (subst P (reads.stops d refl inside).1 fit).0

@@ -1,23 +1,19 @@
 -- Tables whose first cells are by a function.
-use Rattle.std.proofs.Common.{◌≡◌, ℕ, ◌+◌, ◌<◌, ◌≤◌, List, [], ◌∷◌, ◌++◌, map, length, get_or, take, drop, set, sym, ap, ◌∙◌, ap₂, arith}
+use Rattle.std.proofs.Common.{◌≡◌, ℕ, ◌<◌, ◌≤◌, List, ◌++◌, map, length, get_or, take, drop, sym, ap, ◌∙◌, arith}
 use Rattle.std.specs.List.{range_with_len}
-use Rattle.std.proofs.lemmas.List.FromFn.{length-map-range_with_len, get_or-map-range_with_len, map-range_with_len_more, fill_by_all}
-use Rattle.std.proofs.lemmas.List.{append_assoc, set_at, drop_more, drop_at, length-append, length-drop, get_or_append_left, take-append-drop, length-take-le, get_or-take}
+use Rattle.std.proofs.lemmas.List.FromFn.{length-map-range_with_len, get_or-map-range_with_len, fill_by_all}
+use Rattle.std.proofs.lemmas.List.{drop_at, length-append, length-drop, get_or_append_left, take-append-drop, length-take-le, get_or-take}
 use Rattle.opening.specs.Cells.{table}
 
 module _ {V : Type 0} (f : ℕ → V) where
-  more : (i : ℕ) (old : List V) → i < length old → set (table f i old) i (f i) ≡ table f (i + 1) old
-  more i old h =
-      let front = map f (range_with_len 0 i) in
-      let rest = drop (i + 1) old in
-      ap (λ (ys : List V). set (front ++ ys) i (f i)) (drop_more old i (f i) h)
-      ∙ (set_at front (get_or old i (f i)) rest (f i) i (length-map-range_with_len f 0 i)
-      ∙ (sym (append_assoc front (f i ∷ []) rest) ∙ ap (λ (ys : List V). ys ++ rest) (sym (map-range_with_len_more f 0 i i (omega arith)))))
-
-  -- one more cell is written
-  pub table_more : (old cells cells' : List V) (i : ℕ) (x : V) → cells ≡ table f i old → cells' ≡ set cells i x → x ≡ f i → i < length old
-      → cells' ≡ table f (i + 1) old
-  table_more old cells cells' i x before is by h = is ∙ ap₂ (λ (xs : List V) (y : V). set xs i y) before by ∙ more i old h
+  -- cells that are by the function, in front of the others
+  pub table_by : (n m : ℕ) (old new : List V) (d : V) → m ≡ n → n ≤ length old → length new ≡ length (take m old)
+      → ((i : ℕ) → i < length (take m old) → get_or new i d ≡ f i) → new ++ drop m old ≡ table f n old
+  table_by n m old new d is fits long each =
+      let enough : m ≤ length old = omega arith in
+      let all : length (take m old) ≡ m = length-take-le m old enough in
+      ap (λ (ys : List V). ys ++ drop m old) (fill_by_all f new m d (long ∙ all) (λ k h. each k (omega (arith, all))))
+      ∙ ap (λ (k : ℕ). table f k old) is
 
   pub table_cell : (n : ℕ) (old : List V) (i : ℕ) (d : V) → i < n → get_or (table f n old) i d ≡ f i
   table_cell n old i d h =

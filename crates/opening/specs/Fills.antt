@@ -3,7 +3,7 @@ use Rattle.std.specs.Prelude.{ℕ, ◌+◌, ◌*◌, List, [], ◌∷◌, Ok, Er
 use Rattle.gauge.specs.Semirings.{Ops}
 use Rattle.gauge.specs.declared.matrix.EdgeMatrix.{EdgeMatrix}
 use Rattle.network.specs.declared.network.Network.{Network}
-use Rattle.fields.specs.Lists.{Placed}
+use Rattle.fields.specs.declared.read.Placed.{Placed}
 use Rattle.fields.specs.declared.entry.Entry.{Entry}
 use Rattle.fields.specs.declared.entry.Entry.TheVariants as entry
 use Rattle.fields.specs.declared.faults.FieldFault.{FieldFault}

@@ -54,34 +54,20 @@ pub fn weight_at<G: Gauge>(
 ) -> EdgeMatrix<G>
     ensures { result ≡ weight_at_lem G.Semiring.ops G.Gauge.delays network.now signal pin times }
 {
-    match network.driver(signal) {
-        Some(driver) => driver_weight(driver, pin, times),
-        None => EdgeMatrix::zero(),
-    }
-}
-
-// Four zeros.
-fn no_times() -> Times
-    ensures { result ≡ no_times_lem }
-{
-    Times {
-        late_rise: 0,
-        late_fall: 0,
-        early_rise: 0,
-        early_fall: 0,
-    }
+    let driver = network.driver(signal).unwrap_or(Driver::Undriven);
+    driver_weight(driver, pin, times)
 }
 
 // The start of a signal that the delay table does not name.
 pub(crate) fn unnamed_start<G: Gauge>(network: &Network, signal: usize) -> EdgeMatrix<G>
     ensures { result ≡ start_at G.Semiring.ops G.Gauge.delays network.now signal no_times_lem }
 {
-    start_at(network, signal, no_times())
+    start_at(network, signal, Times::default())
 }
 
 // The weight in the cell of a pin that the delay table does not name.
 pub(crate) fn unnamed_weight<G: Gauge>(network: &Network, cell: usize) -> EdgeMatrix<G>
     ensures { result ≡ weight_in G.Semiring.ops G.Gauge.delays network.now cell no_times_lem }
 {
-    weight_at(network, cell / 4, cell % 4, no_times())
+    weight_at(network, cell / 4, cell % 4, Times::default())
 }

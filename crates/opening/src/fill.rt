@@ -1,45 +1,28 @@
 // Fills the tables as an accepted delay table says.
-ghost use Rattle.std.specs.Prelude.{◌≡◌, ◌*◌, ◌<◌, ◌≤◌, true, length, is_ok, Ok, slice_set};
+ghost use Rattle.std.specs.Prelude.{◌≡◌, ℕ, ◌*◌, ◌<◌, ◌≤◌, true, length, is_ok, Ok, slice_index_or};
 ghost use Rattle.network.specs.Net.{size};
-ghost use Rattle.delays.specs.Laws.{Fits};
 ghost use Rattle.delays.specs.Outlines.{outline_of};
-ghost use Rattle.delays.specs.Tables.{no_times_lem, table_of};
-ghost use Rattle.opening.specs.Cells.{table, start_at, weight_in, starts_by, weights_by};
+ghost use Rattle.delays.specs.Tables.{table_of};
+ghost use Rattle.opening.specs.Cells.{starts_by, weights_by};
 ghost use Rattle.opening.specs.Fills.{starts_with, weights_with, after_all};
 ghost use Rattle.fields.specs.Lists.{fields};
 ghost use Rattle.fields.specs.Says.{entry_of};
 
-use crate::cells::{start_at, unnamed_start, unnamed_weight, weight_at};
-use fields::entry::{Entry, read_entry};
+use crate::cells::{start_at, store, unnamed_start, unnamed_weight, weight_at};
+use fields::entry::Entry;
+use fields::read::Fields;
 use gauge::gauges::Gauge;
 use gauge::matrix::EdgeMatrix;
 use network::network::Network;
 
-// Writes one cell.
-fn store<V: Copy>(cells: &mut [V], cell: usize, value: V)
-    requires { cell < length cells.old }
-    ensures { cells.new ≡ slice_set cells.old cell value }
+// Fills each cell with the value by its number.
+fn fill_table<V: Copy, F: Fn(usize) -> V>(cells: &mut [V], value: F)
+    requires { F.IsAlwaysCallable value }
+    ensures long { length cells.new ≡ length cells.old }
+    ensures each { (i : ℕ) (d : V) → i < length cells.old → F.post value i (slice_index_or cells.new i d) }
 {
-    cells[cell] = value;
-}
-
-// Starts of four zeros.
-fn fill_starts<G: Gauge>(network: &Network, starts: &mut [EdgeMatrix<G>])
-    requires { size network.now ≤ length starts.old }
-    ensures { starts.new ≡ table (λ s. start_at G.Semiring.ops G.Gauge.delays network.now s no_times_lem) (size network.now) starts.old }
-{
-    for signal in 0..network.size() {
-        store(starts, signal, unnamed_start(network, signal));
-    }
-}
-
-// Weights of four zeros, and zero for absent pins.
-fn fill_weights<G: Gauge>(network: &Network, weights: &mut [EdgeMatrix<G>])
-    requires { 4 * size network.now ≤ length weights.old }
-    ensures { weights.new ≡ table (λ i. weight_in G.Semiring.ops G.Gauge.delays network.now i no_times_lem) (4 * size network.now) weights.old }
-{
-    for cell in 0..4 * network.size() {
-        store(weights, cell, unnamed_weight(network, cell));
+    for (i, cell) in cells.iter_mut().enumerate() {
+        *cell = value(i);
     }
 }
 
@@ -50,9 +33,6 @@ fn fill_entry<G: Gauge>(
     starts: &mut [EdgeMatrix<G>],
     weights: &mut [EdgeMatrix<G>],
 )
-    requires fits { Fits (outline_of network.now) (Ok entry) }
-    requires starts_long { size network.now ≤ length starts.old }
-    requires weights_long { 4 * size network.now ≤ length weights.old }
     ensures starts { starts.new ≡ starts_with G.Semiring.ops G.Gauge.delays network.now (Ok entry) starts.old }
     ensures weights { weights.new ≡ weights_with G.Semiring.ops G.Gauge.delays network.now (Ok entry) weights.old }
 {
@@ -81,19 +61,13 @@ fn fill_entries<G: Gauge>(
     starts: &mut [EdgeMatrix<G>],
     weights: &mut [EdgeMatrix<G>],
 )
-    requires accepted { is_ok (table_of (outline_of network.now) file.now) ≡ true }
-    requires starts_long { size network.now ≤ length starts.old }
-    requires weights_long { 4 * size network.now ≤ length weights.old }
     ensures starts { starts.new ≡ after_all (starts_with G.Semiring.ops G.Gauge.delays network.now) starts.old (fields entry_of file.now) }
     ensures weights { weights.new ≡ after_all (weights_with G.Semiring.ops G.Gauge.delays network.now) weights.old (fields entry_of file.now) }
 {
-    let mut at = 0;
-    while at < file.len() {
-        let Ok((entry, next)) = read_entry(file, at) else {
-            unreachable()
-        };
-        fill_entry(network, entry, starts, weights);
-        at = next;
+    for field in Fields::<Entry>::new(file) {
+        if let Ok(entry) = field.said {
+            fill_entry(network, entry, starts, weights);
+        }
     }
 }
 
@@ -110,7 +84,12 @@ pub(crate) fn fill<G: Gauge>(
     ensures starts { starts.new ≡ starts_by G.Semiring.ops G.Gauge.delays network.now file.now starts.old }
     ensures weights { weights.new ≡ weights_by G.Semiring.ops G.Gauge.delays network.now file.now weights.old }
 {
-    fill_starts(network, starts);
-    fill_weights(network, weights);
+    let signals = network.size();
+    fill_table(&mut starts[..signals], |signal| {
+        unnamed_start(network, signal)
+    });
+    fill_table(&mut weights[..4 * signals], |cell| {
+        unnamed_weight(network, cell)
+    });
     fill_entries(network, file, starts, weights);
 }

@@ -9,7 +9,8 @@ ghost use Rattle.board.specs.Runs.{Taken};
 
 use book::script_fault::ScriptFault;
 use edits::apply::apply_at;
-use fields::edit::read_edit;
+use fields::edit::Edit;
+use fields::read::Fields;
 use gauge::gauges::Gauge;
 use gauge::matrix::EdgeMatrix;
 use opening::board::Board;
@@ -34,19 +35,16 @@ pub(crate) fn take_fields<G: Gauge, W: WaitingList>(
         weights,
         values,
     } = board;
-    let mut at = 0;
     let mut total = 0;
-    while at < file.len() {
-        let (edit, next) = read_edit(file, at)?;
+    for field in Fields::<Edit>::new(file) {
+        let edit = field.said?;
         let whole = Board {
             network: &mut *network,
             starts: &mut *starts,
             weights: &mut *weights,
             values: &mut *values,
         };
-        let count = apply_at(whole, list, strip, edit, at)?;
-        total += count;
-        at = next;
+        total += apply_at(whole, list, strip, edit, field.at)?;
     }
     Ok(total)
 }
