@@ -18,12 +18,12 @@ pub enum EditFault {
     ClosesCycle { at: usize },
 }
 
-impl EditFault {
-    /// The fault as a refusal: its cause, and its place in the script.
-    pub fn refusal(self) -> Refusal
-        ensures { result ≡ edit_refusal self }
-    {
-        let (cause, place) = match self {
+/// The fault as a refusal: its cause, and its place in the script.
+impl From<EditFault> for Refusal {
+    ghost from_gives = { λ f r. r ≡ edit_refusal f };
+
+    fn from(fault: EditFault) -> Refusal {
+        let (cause, place) = match fault {
             EditFault::TooShort => (Cause::TooShort, 0),
             EditFault::LowLimit => (Cause::LowLimit, 0),
             EditFault::NoSuchPart { at } => (Cause::NoSuchPart, at),
