@@ -1,8 +1,9 @@
 ghost use Rattle.std.specs.Prelude.{◌≡◌};
-ghost use Rattle.book.specs.Faults.{edit_refusal};
+ghost use Rattle.book.specs.Faults.{no_room, edit_refusal};
 
 use fault::cause::Cause;
 use fault::refusal::Refusal;
+use fault::room_fault::RoomFault;
 
 /// Why an edit is refused; `at` is the place of the field's tag, and 0 in a direct call.
 #[derive(Clone, Copy, PartialEq, Eq, Debug)]
@@ -16,6 +17,17 @@ pub enum EditFault {
     EarlyAboveLate { at: usize },
     /// the new feeding signal is the gate's own or is reached from it
     ClosesCycle { at: usize },
+}
+
+impl From<RoomFault> for EditFault {
+    ghost from_gives = { λ f r. r ≡ no_room f };
+
+    fn from(fault: RoomFault) -> EditFault {
+        match fault {
+            RoomFault::TooShort => EditFault::TooShort,
+            RoomFault::LowLimit => EditFault::LowLimit,
+        }
+    }
 }
 
 /// The fault as a refusal: its cause, and its place in the script.

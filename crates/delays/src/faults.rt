@@ -1,9 +1,10 @@
 ghost use Rattle.std.specs.Prelude.{◌≡◌};
-ghost use Rattle.delays.specs.Faults.{refusal_of};
+ghost use Rattle.delays.specs.Faults.{no_room, refusal_of};
 ghost use Rattle.delays.specs.declared.faults.DelayFault.TheVariants.{Field};
 
 use fault::cause::Cause;
 use fault::refusal::Refusal;
+use fault::room_fault::RoomFault;
 use fields::faults::FieldFault;
 use fields::field::FILE_LIMIT;
 
@@ -30,6 +31,17 @@ impl From<FieldFault> for DelayFault {
 
     fn from(fault: FieldFault) -> DelayFault {
         DelayFault::Field(fault)
+    }
+}
+
+impl From<RoomFault> for DelayFault {
+    ghost from_gives = { λ f r. r ≡ no_room f };
+
+    fn from(fault: RoomFault) -> DelayFault {
+        match fault {
+            RoomFault::TooShort => DelayFault::TooShort,
+            RoomFault::LowLimit => DelayFault::LowLimit,
+        }
     }
 }
 
