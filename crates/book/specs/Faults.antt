@@ -3,12 +3,19 @@ use Rattle.std.specs.Prelude.{ℕ}
 use Rattle.fault.specs.declared.cause.Cause.{Cause}
 use Rattle.fault.specs.declared.cause.Cause.TheVariants as cause
 use Rattle.fault.specs.declared.refusal.Refusal.{Refusal}
+use Rattle.fault.specs.declared.room_fault.RoomFault.{RoomFault}
+use Rattle.fault.specs.declared.room_fault.RoomFault.TheVariants as room
 use Rattle.fields.specs.Faults as field
 use Rattle.fields.specs.Fields.{file_limit}
 use Rattle.book.specs.declared.edit_fault.EditFault.{EditFault}
 use Rattle.book.specs.declared.edit_fault.EditFault.TheVariants.{TooShort, LowLimit, NoSuchPart, EarlyAboveLate, ClosesCycle}
 use Rattle.book.specs.declared.script_fault.ScriptFault.{ScriptFault}
 use Rattle.book.specs.declared.script_fault.ScriptFault.TheVariants.{FileTooLong, Field, Edit}
+
+-- how a board without room is refused
+abbrev pub no_room : RoomFault → EditFault
+no_room room.TooShort = TooShort
+no_room room.LowLimit = LowLimit
 
 -- a cause at a place
 abbrev pub refusal : Cause → ℕ → Refusal

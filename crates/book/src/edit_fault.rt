@@ -1,8 +1,9 @@
 ghost use Rattle.std.specs.Prelude.{◌≡◌};
-ghost use Rattle.book.specs.Faults.{edit_refusal};
+ghost use Rattle.book.specs.Faults.{no_room, edit_refusal};
 
 use fault::cause::Cause;
 use fault::refusal::Refusal;
+use fault::room_fault::RoomFault;
 
 /// Why an edit is refused; `at` is the place of the field's tag, and 0 in a direct call.
 #[derive(Clone, Copy, PartialEq, Eq, Debug)]
@@ -18,12 +19,23 @@ pub enum EditFault {
     ClosesCycle { at: usize },
 }
 
-impl EditFault {
-    /// The fault as a refusal: its cause, and its place in the script.
-    pub fn refusal(self) -> Refusal
-        ensures { result ≡ edit_refusal self }
-    {
-        let (cause, place) = match self {
+impl From<RoomFault> for EditFault {
+    ghost from_gives = { λ f r. r ≡ no_room f };
+
+    fn from(fault: RoomFault) -> EditFault {
+        match fault {
+            RoomFault::TooShort => EditFault::TooShort,
+            RoomFault::LowLimit => EditFault::LowLimit,
+        }
+    }
+}
+
+/// The fault as a refusal: its cause, and its place in the script.
+impl From<EditFault> for Refusal {
+    ghost from_gives = { λ f r. r ≡ edit_refusal f };
+
+    fn from(fault: EditFault) -> Refusal {
+        let (cause, place) = match fault {
             EditFault::TooShort => (Cause::TooShort, 0),
             EditFault::LowLimit => (Cause::LowLimit, 0),
             EditFault::NoSuchPart { at } => (Cause::NoSuchPart, at),

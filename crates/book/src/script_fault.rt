@@ -32,18 +32,18 @@ impl From<EditFault> for ScriptFault {
     }
 }
 
-impl ScriptFault {
-    /// The fault as a refusal: its cause, and its place in the script.
-    pub fn refusal(self) -> Refusal
-        ensures { result ≡ script_refusal self }
-    {
-        match self {
+/// The fault as a refusal: its cause, and its place in the script.
+impl From<ScriptFault> for Refusal {
+    ghost from_gives = { λ f r. r ≡ script_refusal f };
+
+    fn from(fault: ScriptFault) -> Refusal {
+        match fault {
             ScriptFault::FileTooLong => Refusal {
                 cause: Cause::FileTooLong,
                 place: FILE_LIMIT,
             },
-            ScriptFault::Field(fault) => fault.refusal(),
-            ScriptFault::Edit(fault) => fault.refusal(),
+            ScriptFault::Field(fault) => fault.into(),
+            ScriptFault::Edit(fault) => fault.into(),
         }
     }
 }

@@ -3,10 +3,17 @@ use Rattle.std.specs.Prelude.{ℕ}
 use Rattle.fault.specs.declared.cause.Cause.{Cause}
 use Rattle.fault.specs.declared.cause.Cause.TheVariants as cause
 use Rattle.fault.specs.declared.refusal.Refusal.{Refusal}
+use Rattle.fault.specs.declared.room_fault.RoomFault.{RoomFault}
+use Rattle.fault.specs.declared.room_fault.RoomFault.TheVariants as room
 use Rattle.fields.specs.Faults as field
 use Rattle.fields.specs.Fields.{file_limit}
 use Rattle.delays.specs.declared.faults.DelayFault.{DelayFault}
 use Rattle.delays.specs.declared.faults.DelayFault.TheVariants.{TooShort, LowLimit, FileTooLong, Empty, Field, NoSuchPart, EarlyAboveLate, NamedTwice}
+
+-- how a board without room is refused
+abbrev pub no_room : RoomFault → DelayFault
+no_room room.TooShort = TooShort
+no_room room.LowLimit = LowLimit
 
 -- a cause at a place of the table
 abbrev pub refusal : Cause → ℕ → Refusal

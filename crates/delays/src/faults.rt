@@ -1,9 +1,10 @@
 ghost use Rattle.std.specs.Prelude.{◌≡◌};
-ghost use Rattle.delays.specs.Faults.{refusal_of};
+ghost use Rattle.delays.specs.Faults.{no_room, refusal_of};
 ghost use Rattle.delays.specs.declared.faults.DelayFault.TheVariants.{Field};
 
 use fault::cause::Cause;
 use fault::refusal::Refusal;
+use fault::room_fault::RoomFault;
 use fields::faults::FieldFault;
 use fields::field::FILE_LIMIT;
 
@@ -33,17 +34,28 @@ impl From<FieldFault> for DelayFault {
     }
 }
 
-impl DelayFault {
-    /// The fault as a refusal: its cause, and its place in the delay table.
-    pub fn refusal(self) -> Refusal
-        ensures { result ≡ refusal_of self }
-    {
-        let (cause, place) = match self {
+impl From<RoomFault> for DelayFault {
+    ghost from_gives = { λ f r. r ≡ no_room f };
+
+    fn from(fault: RoomFault) -> DelayFault {
+        match fault {
+            RoomFault::TooShort => DelayFault::TooShort,
+            RoomFault::LowLimit => DelayFault::LowLimit,
+        }
+    }
+}
+
+/// The fault as a refusal: its cause, and its place in the delay table.
+impl From<DelayFault> for Refusal {
+    ghost from_gives = { λ f r. r ≡ refusal_of f };
+
+    fn from(fault: DelayFault) -> Refusal {
+        let (cause, place) = match fault {
             DelayFault::TooShort => (Cause::TooShort, 0),
             DelayFault::LowLimit => (Cause::LowLimit, 0),
             DelayFault::FileTooLong => (Cause::FileTooLong, FILE_LIMIT),
             DelayFault::Empty => (Cause::BadField, 0),
-            DelayFault::Field(fault) => return fault.refusal(),
+            DelayFault::Field(fault) => return fault.into(),
             DelayFault::NoSuchPart { at } => (Cause::NoSuchPart, at),
             DelayFault::EarlyAboveLate { at } => (Cause::EarlyAboveLate, at),
             DelayFault::NamedTwice { at } => (Cause::NamedTwice, at),

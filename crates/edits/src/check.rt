@@ -57,13 +57,7 @@ pub(crate) fn check<V>(
 ) -> Result<(), EditFault>
     ensures { result ≡ unless (checked (view_of board.now) strip limit at edit) tt }
 {
-    let signals = board.network.size();
-    if uses_strip(edit) && strip < signals || board.is_short() {
-        return Err(EditFault::TooShort);
-    }
-    if limit < signals {
-        return Err(EditFault::LowLimit);
-    }
+    board.check_room(uses_strip(edit).then_some(strip), limit)?;
     if !has_parts(board.network, edit) {
         return Err(EditFault::NoSuchPart { at });
     }

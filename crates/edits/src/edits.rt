@@ -13,6 +13,7 @@ use fields::edit::Edit;
 use gauge::gauges::Gauge;
 use gauge::matrix::EdgeMatrix;
 use opening::board::Board;
+use opening::lend;
 use waiting::list::WaitingList;
 use weights::times::Times;
 
@@ -29,20 +30,9 @@ pub fn apply<G: Gauge, W: WaitingList>(
     ensures empty { Empty (W.WaitingList.waits list.new) }
     ensures limit { W.WaitingList.limit list.new ≡ W.WaitingList.limit list.old }
 {
-    let Board {
-        network,
-        starts,
-        weights,
-        values,
-    } = board;
-    let whole = Board {
-        network,
-        starts,
-        weights,
-        values,
-    };
+    lend!(board);
     let marks = Marks { cells: strip };
-    apply_at(whole, list, marks.cells, edit, 0)
+    apply_at(board, list, marks.cells, edit, 0)
 }
 
 // Makes an edit that marks nothing, so that no strip is lent.
@@ -58,19 +48,8 @@ fn apply_unmarked<G: Gauge, W: WaitingList>(
     ensures limit { W.WaitingList.limit list.new ≡ W.WaitingList.limit list.old }
 {
     let mut no_strip = [];
-    let Board {
-        network,
-        starts,
-        weights,
-        values,
-    } = board;
-    let whole = Board {
-        network,
-        starts,
-        weights,
-        values,
-    };
-    let answer = apply_at(whole, list, &mut no_strip, edit, 0);
+    lend!(board);
+    let answer = apply_at(board, list, &mut no_strip, edit, 0);
     answer
 }
 
@@ -87,19 +66,8 @@ pub fn set_delay<G: Gauge, W: WaitingList>(
     ensures empty { Empty (W.WaitingList.waits list.new) }
     ensures limit { W.WaitingList.limit list.new ≡ W.WaitingList.limit list.old }
 {
-    let Board {
-        network,
-        starts,
-        weights,
-        values,
-    } = board;
-    let whole = Board {
-        network,
-        starts,
-        weights,
-        values,
-    };
-    let answer = apply_unmarked(whole, list, Edit::SetDelay { gate, pin, times });
+    lend!(board);
+    let answer = apply_unmarked(board, list, Edit::SetDelay { gate, pin, times });
     answer
 }
 
@@ -115,19 +83,8 @@ pub fn set_start<G: Gauge, W: WaitingList>(
     ensures empty { Empty (W.WaitingList.waits list.new) }
     ensures limit { W.WaitingList.limit list.new ≡ W.WaitingList.limit list.old }
 {
-    let Board {
-        network,
-        starts,
-        weights,
-        values,
-    } = board;
-    let whole = Board {
-        network,
-        starts,
-        weights,
-        values,
-    };
-    let answer = apply_unmarked(whole, list, Edit::SetStart { source, times });
+    lend!(board);
+    let answer = apply_unmarked(board, list, Edit::SetStart { source, times });
     answer
 }
 
@@ -146,21 +103,10 @@ pub fn rewire<G: Gauge, W: WaitingList>(
     ensures empty { Empty (W.WaitingList.waits list.new) }
     ensures limit { W.WaitingList.limit list.new ≡ W.WaitingList.limit list.old }
 {
-    let Board {
-        network,
-        starts,
-        weights,
-        values,
-    } = board;
-    let whole = Board {
-        network,
-        starts,
-        weights,
-        values,
-    };
+    lend!(board);
     let marks = Marks { cells: strip };
     apply_at(
-        whole,
+        board,
         list,
         marks.cells,
         Edit::Rewire { gate, pin, feeder },
@@ -180,18 +126,7 @@ pub fn cut<G: Gauge, W: WaitingList>(
     ensures empty { Empty (W.WaitingList.waits list.new) }
     ensures limit { W.WaitingList.limit list.new ≡ W.WaitingList.limit list.old }
 {
-    let Board {
-        network,
-        starts,
-        weights,
-        values,
-    } = board;
-    let whole = Board {
-        network,
-        starts,
-        weights,
-        values,
-    };
-    let answer = apply_unmarked(whole, list, Edit::Cut { gate, pin });
+    lend!(board);
+    let answer = apply_unmarked(board, list, Edit::Cut { gate, pin });
     answer
 }

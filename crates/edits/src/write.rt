@@ -57,12 +57,9 @@ pub(crate) fn write<G: Gauge>(
             store(starts, usize::from(source), source_start(times));
             Ok(())
         }
-        Edit::Rewire { gate, pin, feeder } => {
-            match network.rewire(usize::from(gate), usize::from(pin), feeder, strip) {
-                Ok(()) => Ok(()),
-                Err(_) => Err(EditFault::ClosesCycle { at }),
-            }
-        }
+        Edit::Rewire { gate, pin, feeder } => network
+            .rewire(usize::from(gate), usize::from(pin), feeder, strip)
+            .map_err(|_| EditFault::ClosesCycle { at }),
         Edit::Cut { gate, pin } => {
             store(weights, weight_cell(gate, pin), EdgeMatrix::zero());
             Ok(())

@@ -3,3 +3,4 @@
 
 pub mod cause;
 pub mod refusal;
+pub mod room_fault;

@@ -13,12 +13,12 @@ pub enum FieldFault {
     Misplaced { at: usize },
 }
 
-impl FieldFault {
-    /// The fault as a refusal: one cause for all of them, at the tag.
-    pub fn refusal(self) -> Refusal
-        ensures { result ≡ refusal_of self }
-    {
-        match self {
+/// The fault as a refusal: one cause for all of them, at the tag.
+impl From<FieldFault> for Refusal {
+    ghost from_gives = { λ f r. r ≡ refusal_of f };
+
+    fn from(fault: FieldFault) -> Refusal {
+        match fault {
             FieldFault::UnknownTag { at }
             | FieldFault::CutOff { at }
             | FieldFault::WrongLength { at }

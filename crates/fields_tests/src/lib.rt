@@ -157,7 +157,7 @@ mod tests {
 
     #[test]
     fn refused_at_the_tag(rt: HostRuntime) {
-        let refusal = FieldFault::Misplaced { at: 3 }.refusal();
+        let refusal = Refusal::from(FieldFault::Misplaced { at: 3 });
         assert_eq!(rt; refusal.number(), 11);
         assert_eq!(rt;
             refusal,

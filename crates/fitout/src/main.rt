@@ -29,7 +29,7 @@ fn run(rt: &HostRuntime) -> anyhow::Result<()> {
             show_network(rt, &netlist, &network)?;
             open_boards(rt, &netlist, network, &delays)
         }
-        Err(fault) => Ok(show_refusal(rt, "NETLIST", fault.refusal())?),
+        Err(fault) => Ok(show_refusal(rt, "NETLIST", fault.into())?),
     }
 }
 
@@ -55,7 +55,7 @@ fn open_boards(
     match late.open(&mut net, delays) {
         Ok(opened) => show_clock(rt, opened)?,
         Err(fault) => {
-            show_refusal(rt, "DELAYS", fault.refusal())?;
+            show_refusal(rt, "DELAYS", fault.into())?;
             return Ok(());
         }
     }

@@ -29,13 +29,15 @@ impl NetlistFault {
     {
         NetlistFault::OfNetlist(Refusal { cause, place })
     }
+}
 
-    /// The cause and the place, wherever the fault was found.
-    pub fn refusal(self) -> Refusal
-        ensures { result ≡ refusal_of self }
-    {
-        match self {
-            NetlistFault::OfWord(fault) => fault.refusal(),
+/// The cause and the place, wherever the fault was found.
+impl From<NetlistFault> for Refusal {
+    ghost from_gives = { λ f r. r ≡ refusal_of f };
+
+    fn from(fault: NetlistFault) -> Refusal {
+        match fault {
+            NetlistFault::OfWord(fault) => fault.into(),
             NetlistFault::OfNetlist(refusal) => refusal,
         }
     }

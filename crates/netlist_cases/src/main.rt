@@ -1,6 +1,7 @@
 // Reads each netlist that it is given and prints its number of signals, or the refusal's number and place.
 #![tactic(auto)]
 
+use fault::refusal::Refusal;
 use netlist::read::read;
 use netlist::room::Room;
 use std::{env, fs, io};
@@ -21,7 +22,7 @@ fn show_case(rt: &HostRuntime, path: &str, text: &[u8], room: Room) -> io::Resul
             println!(rt; "{path}: SIGNALS {size}")
         }
         Err(fault) => {
-            let refusal = fault.refusal();
+            let refusal = Refusal::from(fault);
             let number = refusal.number();
             let place = refusal.place;
             println!(rt; "{path}: REFUSED {number} {place}")

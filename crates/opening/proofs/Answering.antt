@@ -1,15 +1,16 @@
 -- Boards that have room, and what opening them answers.
-use Rattle.std.proofs.Common.{◌≡◌, ℕ, ◌*◌, ◌≤◌, Bool, true, false, cond, ◌||◌, ltb, List, length, Ok, Err, Result, refl, ap, ◌∙◌, arith}
-use Rattle.std.specs.Result.{result_and}
+use Rattle.std.proofs.Common.{◌≡◌, ℕ, ◌*◌, ◌≤◌, Bool, true, false, cond, ◌||◌, ltb, List, length, None, Ok, Err, Result, refl, ap, ◌∙◌, arith}
+use Rattle.std.specs.Result.{result_and, result_map_both}
 use Rattle.std.proofs.lemmas.Bool.{ltb-false, or_parts}
+use Rattle.fault.specs.declared.room_fault.RoomFault.{RoomFault}
+use Rattle.fault.specs.declared.room_fault.RoomFault.TheVariants.{TooShort, LowLimit}
 use Rattle.network.specs.Net.{size}
 use Rattle.fields.specs.declared.entry.Clock.{Clock}
+use Rattle.delays.specs.Faults.{no_room}
 use Rattle.delays.specs.Outlines.{outline_of}
 use Rattle.delays.specs.Tables.{table_of}
-use Rattle.delays.specs.declared.faults.DelayFault.{DelayFault}
-use Rattle.delays.specs.declared.faults.DelayFault.TheVariants.{TooShort, LowLimit}
-use Rattle.opening.specs.Boards.{View, is_short_lem}
-use Rattle.opening.specs.Opens.{counted, room_of, answer_of}
+use Rattle.opening.specs.Boards.{View, is_short_lem, room_in}
+use Rattle.opening.specs.Opens.{counted, answer_of}
 
 -- the tables of a board that is not short
 pub record Long {V : Type 0} (view : View V) : Type 0 where
@@ -28,7 +29,7 @@ long view h =
       values = ltb-false (length view.values) n others.1;
     }
 
-abbrev room : (short low : Bool) → Result (Unit {0}) DelayFault
+abbrev room : (short low : Bool) → Result (Unit {0}) RoomFault
 room short low = cond short (Err TooShort) (cond low (Err LowLimit) (Ok tt))
 
 room_ok : (short low : Bool) → Ok tt ≡ room short low → short ≡ false
@@ -36,14 +37,14 @@ room_ok false low h = refl
 room_ok true low h = let z : ◌≡◌ {A = ℕ} 0 1 = cc in absurd (omega arith)
 
 -- a board that has room is not short
-pub roomy : {V : Type 0} (view : View V) (limit : ℕ) → Ok tt ≡ room_of view limit → Long view
+pub roomy : {V : Type 0} (view : View V) (limit : ℕ) → Ok tt ≡ room_in view None limit → Long view
 roomy view limit h = long view (room_ok (is_short_lem view) (ltb limit (size view.network)) h)
 
 -- the answer of a board that has room
-pub answered : {V : Type 0} (view : View V) (limit : ℕ) (file : List ℕ) → Ok tt ≡ room_of view limit
+pub answered : {V : Type 0} (view : View V) (limit : ℕ) (file : List ℕ) → Ok tt ≡ room_in view None limit
     → (clock : Clock) → Ok clock ≡ table_of (outline_of view.network) file → (count : ℕ) → count ≡ size view.network
     → Ok (record { clock = clock; count = count }) ≡ answer_of view limit file
 answered view limit file has_room clock said count is =
     let n = size view.network in
     ap (λ (m : ℕ). Ok (record { clock = clock; count = m })) is ∙ (ap (counted n) said
-    ∙ ap (λ (o : Result (Unit {0}) DelayFault). result_and o (counted n (table_of (outline_of view.network) file))) has_room)
+    ∙ ap (λ (o : Result (Unit {0}) RoomFault). result_and (result_map_both (λ done. done) no_room o) (counted n (table_of (outline_of view.network) file))) has_room)

@@ -1,7 +1,7 @@
 -- What opening answers, and what it leaves on the board.
-use Rattle.std.specs.Prelude.{ℕ, cond, List, map, Ok, Err, Result, nat_lt}
+use Rattle.std.specs.Prelude.{ℕ, List, map, None, Ok, Err, Result}
 use Rattle.std.specs.List.{range_with_len}
-use Rattle.std.specs.Result.{result_and}
+use Rattle.std.specs.Result.{result_and, result_map_both}
 use Rattle.gauge.specs.Matrix.{edge_ops}
 use Rattle.gauge.specs.Semirings.{Ops}
 use Rattle.gauge.specs.declared.matrix.EdgeMatrix.{EdgeMatrix}
@@ -10,11 +10,11 @@ use Rattle.paths.specs.Web.{Web}
 use Rattle.network.specs.Net.{size, fanin, from}
 use Rattle.network.specs.declared.network.Network.{Network}
 use Rattle.fields.specs.declared.entry.Clock.{Clock}
+use Rattle.delays.specs.Faults.{no_room}
 use Rattle.delays.specs.Outlines.{outline_of}
 use Rattle.delays.specs.Tables.{table_of, pin_times, source_times}
 use Rattle.delays.specs.declared.faults.DelayFault.{DelayFault}
-use Rattle.delays.specs.declared.faults.DelayFault.TheVariants.{TooShort, LowLimit}
-use Rattle.opening.specs.Boards.{View, is_short_lem}
+use Rattle.opening.specs.Boards.{View, room_in}
 use Rattle.opening.specs.Cells.{table, start_at, weight_at_lem, starts_by, weights_by}
 use Rattle.opening.specs.declared.open.Opened.{Opened}
 
@@ -25,7 +25,7 @@ counted n (Err d) = Err d
 
 -- a short table is judged first, then a low limit
 abbrev pub room_of : {V : Type 0} → View V → (limit : ℕ) → Result (Unit {0}) DelayFault
-room_of view limit = cond (is_short_lem view) (Err TooShort) (cond (nat_lt limit (size view.network)) (Err LowLimit) (Ok tt))
+room_of view limit = result_map_both (λ done. done) no_room (room_in view None limit)
 
 -- and then the delay table
 abbrev pub answer_of : {V : Type 0} → View V → (limit : ℕ) (file : List ℕ) → Result Opened DelayFault

@@ -1,7 +1,28 @@
 ghost use Rattle.std.specs.Prelude.{◌≡◌};
-ghost use Rattle.opening.specs.Boards.{view_of, is_short_lem};
+ghost use Rattle.opening.specs.Boards.{view_of, is_short_lem, room_in};
 
+use fault::room_fault::RoomFault;
 use network::network::Network;
+
+/// Takes a board apart and puts it together again, so that it can be handed on.
+// Handed on as it is, it gets no proof: the goal at the return speaks of `board-2-1.given`, which no promise of the callee names.
+#[macro_export]
+macro_rules! lend {
+    ($board:ident) => {
+        let $crate::board::Board {
+            network,
+            starts,
+            weights,
+            values,
+        } = $board;
+        let $board = $crate::board::Board {
+            network,
+            starts,
+            weights,
+            values,
+        };
+    };
+}
 
 /// A network with three tables that the caller keeps: starts and values with a cell for each signal, and weights with cell 4 × signal + pin.
 #[derive(Drop)]
@@ -21,5 +42,19 @@ impl<V> Board<'_, V> {
         self.starts.len() < signals
             || self.weights.len() < 4 * signals
             || self.values.len() < signals
+    }
+
+    /// Whether there is room for a call: the strip, if it is used, and the tables are judged first, then the waiting list's limit.
+    pub fn check_room(&self, strip: Option<usize>, limit: usize) -> Result<(), RoomFault>
+        ensures { result ≡ room_in (view_of self.now) strip limit }
+    {
+        let signals = self.network.size();
+        if strip.is_some_and(|cells| cells < signals) || self.is_short() {
+            return Err(RoomFault::TooShort);
+        }
+        if limit < signals {
+            return Err(RoomFault::LowLimit);
+        }
+        Ok(())
     }
 }

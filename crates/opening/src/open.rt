@@ -2,7 +2,7 @@
 ghost use Rattle.std.specs.Prelude.{◌≡◌, is_ok, if◌then◌else◌};
 ghost use Rattle.waiting.specs.Turns.{Empty};
 ghost use Rattle.opening.specs.Boards.{view_of, view_at};
-ghost use Rattle.opening.specs.Opens.{room_of, answer_of, opened_view};
+ghost use Rattle.opening.specs.Opens.{answer_of, opened_view};
 
 use crate::board::Board;
 use crate::fill::fill;
@@ -22,19 +22,6 @@ pub struct Opened {
     pub count: usize,
 }
 
-// Whether the tables are long enough and the limit is high enough, in this order.
-fn check_room<V>(board: &Board<'_, V>, limit: usize) -> Result<(), DelayFault>
-    ensures { result ≡ room_of (view_of board.now) limit }
-{
-    if board.is_short() {
-        return Err(DelayFault::TooShort);
-    }
-    if limit < board.network.size() {
-        return Err(DelayFault::LowLimit);
-    }
-    Ok(())
-}
-
 /// Fills the tables as the network and the delay table say, and makes each value its path sum.
 pub fn open<G: Gauge, W: WaitingList>(
     board: Board<'_, EdgeMatrix<G>>,
@@ -47,7 +34,7 @@ pub fn open<G: Gauge, W: WaitingList>(
     ensures limit { W.WaitingList.limit list.new ≡ W.WaitingList.limit list.old }
 {
     list.clear();
-    check_room(&board, list.limit())?;
+    board.check_room(None, list.limit())?;
     let Board {
         network,
         starts,

@@ -32,18 +32,18 @@ impl From<DelayFault> for ReplayFault {
     }
 }
 
-impl ReplayFault {
-    /// The fault as a refusal: its cause, and its place in the file that is refused.
-    pub fn refusal(self) -> Refusal
-        ensures { result ≡ refusal_of self }
-    {
-        match self {
+/// The fault as a refusal: its cause, and its place in the file that is refused.
+impl From<ReplayFault> for Refusal {
+    ghost from_gives = { λ f r. r ≡ refusal_of f };
+
+    fn from(fault: ReplayFault) -> Refusal {
+        match fault {
             ReplayFault::TooFewCells => Refusal {
                 cause: Cause::TooShort,
                 place: 0,
             },
-            ReplayFault::Netlist(fault) => fault.refusal(),
-            ReplayFault::Delays(fault) => fault.refusal(),
+            ReplayFault::Netlist(fault) => fault.into(),
+            ReplayFault::Delays(fault) => fault.into(),
         }
     }
 }

@@ -10,6 +10,7 @@ use edits::edits::apply;
 use gauge::gauges::Gauge;
 use gauge::matrix::EdgeMatrix;
 use opening::board::Board;
+use opening::lend;
 use script::run::run_script;
 use waiting::list::WaitingList;
 
@@ -26,25 +27,14 @@ pub fn make_call<G: Gauge, W: WaitingList>(
     ensures empty { Empty (W.WaitingList.waits list.new) }
     ensures limit { W.WaitingList.limit list.new ≡ W.WaitingList.limit list.old }
 {
-    let Board {
-        network,
-        starts,
-        weights,
-        values,
-    } = board;
-    let whole = Board {
-        network,
-        starts,
-        weights,
-        values,
-    };
+    lend!(board);
     let edit = match call {
         Call::Edit(edit) => edit,
         Call::Script(file) => {
-            let answer = run_script(whole, list, strip, file);
+            let answer = run_script(board, list, strip, file);
             return answer;
         }
     };
-    let count = apply(whole, list, strip, edit)?;
+    let count = apply(board, list, strip, edit)?;
     Ok(count)
 }

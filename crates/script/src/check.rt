@@ -14,20 +14,6 @@ use gauge::gauges::Gauge;
 use gauge::matrix::EdgeMatrix;
 use opening::board::Board;
 
-// Are the tables and the strip long enough, and is the limit high enough?
-fn check_room<V>(board: &Board<'_, V>, strip: usize, limit: usize) -> Result<(), EditFault>
-    ensures { result ≡ unless (room_fault true (lent_of (view_of board.now) strip limit) (size board.now.network.now)) tt }
-{
-    let signals = board.network.size();
-    if strip < signals || board.is_short() {
-        return Err(EditFault::TooShort);
-    }
-    if limit < signals {
-        return Err(EditFault::LowLimit);
-    }
-    Ok(())
-}
-
 // Room first, then the file's length.
 pub(crate) fn check_script<G: Gauge>(
     board: &Board<'_, EdgeMatrix<G>>,
@@ -37,7 +23,9 @@ pub(crate) fn check_script<G: Gauge>(
 ) -> Result<(), ScriptFault>
     ensures { result ≡ unless (judge_script G.Semiring.ops G.Gauge.delays (lent_of (view_of board.now) strip limit) (book_of (edge_ops G.Semiring.ops) (view_of board.now)) file.now) tt }
 {
-    check_room(board, strip, limit)?;
+    board
+        .check_room(Some(strip), limit)
+        .map_err(EditFault::from)?;
     if too_long(file) {
         return Err(ScriptFault::FileTooLong);
     }

@@ -13,6 +13,7 @@ use edits::marks::Marks;
 use gauge::gauges::Gauge;
 use gauge::matrix::EdgeMatrix;
 use opening::board::Board;
+use opening::lend;
 use waiting::list::WaitingList;
 
 /// Makes the edits of a script in order up to the first that is refused, which leaves those before it made;
@@ -33,18 +34,7 @@ pub fn run_script<G: Gauge, W: WaitingList>(
     let marks = Marks { cells: strip };
     list.clear();
     check_script(&board, marks.cells.len(), list.limit(), file)?;
-    let Board {
-        network,
-        starts,
-        weights,
-        values,
-    } = board;
-    let whole = Board {
-        network,
-        starts,
-        weights,
-        values,
-    };
-    let answer = take_fields(whole, list, marks.cells, file);
+    lend!(board);
+    let answer = take_fields(board, list, marks.cells, file);
     answer
 }

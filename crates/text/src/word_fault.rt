@@ -13,11 +13,11 @@ pub enum WordFault {
     LongName(usize),
 }
 
-impl WordFault {
-    pub fn refusal(self) -> Refusal
-        ensures { result ≡ refusal_of self }
-    {
-        match self {
+impl From<WordFault> for Refusal {
+    ghost from_gives = { λ f r. r ≡ refusal_of f };
+
+    fn from(fault: WordFault) -> Refusal {
+        match fault {
             WordFault::BadByte(place) => Refusal {
                 cause: Cause::BadByte,
                 place,

@@ -1,6 +1,5 @@
-use Rattle.std.proofs.Common.{◌≡◌, Ok, arith, rules}
-use Rattle.opening.specs.Boards.{view_of}
-use Rattle.opening.specs.Opens.{room_of}
+use Rattle.std.proofs.Common.{◌≡◌, None, Ok, arith, rules}
+use Rattle.opening.specs.Boards.{view_of, room_in}
 use Rattle.opening.proofs.Agreeing.{fits, opened}
 use Rattle.opening.proofs.Answering.{roomy, answered}
 use Rattle.opening.proofs.open.open.Goals as goal
@@ -19,7 +18,7 @@ returns g c =
     let view = view_of board in
     let file = c.args.file.now in
     let worked = c.work_all-count.ensures in
-    let room : Ok tt ≡ room_of view (g.W.WaitingList.limit c.args.list.now) = search rules in
+    let room : Ok tt ≡ room_in view None (g.W.WaitingList.limit c.args.list.now) = search rules in
     let long = roomy view _ room in
     record {
       answers = answered view _ file room c.in_ok-clock.clock c.in_ok-clock.ensures c.work_all-count.result worked.count;
