@@ -7,7 +7,6 @@ ghost use Rattle.network.specs.Wiring.{pin_count_lem};
 
 use crate::network::Network;
 use crate::network::mark::mark_reached;
-use crate::network::renumber::{list_by_turn, renumber};
 use crate::signal::{Driver, Signal};
 
 /// The new feeder is the gate's own signal, or is reached from it.
@@ -46,8 +45,7 @@ impl Network {
         requires apart { marked marks.now feeder ≡ false }
         ensures { signals_of self.new ≡ rewired_at (signals_of self.old) gate pin feeder }
     {
-        renumber(&self.order, marks, &mut self.turn_of);
-        list_by_turn(&self.turn_of, &mut self.order);
+        self.turns.put_last(marks);
         let rewired = self.signals[gate].with_feeder(pin, feeder);
         self.signals[gate] = rewired;
     }

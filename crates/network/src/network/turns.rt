@@ -1,9 +1,10 @@
 // Turns and wires: for every number, and lean where the number is known to be one.
-ghost use Rattle.std.specs.Prelude.{◌≡◌, ◌<◌};
-ghost use Rattle.network.specs.Net.{size as size_of, turn as turn_of, signal_at_lem, fanin, from, turn_if, signal_at_if, from_if};
+ghost use Rattle.std.specs.Prelude.{◌≡◌, ℕ, ◌<◌, length, slice_index};
+ghost use Rattle.network.specs.Net.{signals as signals_of, size as size_of, turn as turn_of, signal_at_lem, fanin, from, turn_if, signal_at_if, from_if};
+ghost use Rattle.network.specs.Wiring.{feeders as feeders_of};
 
 use crate::network::Network;
-use crate::wires::feeder;
+use crate::wires::Wires;
 
 impl Network {
     /// The turn of a signal.
@@ -45,7 +46,7 @@ impl Network {
         ensures is { result ≡ turn_of self.now signal }
         ensures within { result < size_of self.now }
     {
-        self.turn_of[signal]
+        self.turns.turn(signal)
     }
 
     /// The signal at a turn that there is.
@@ -55,7 +56,18 @@ impl Network {
         ensures within { result < size_of self.now }
         ensures back { turn_of self.now result ≡ turn }
     {
-        usize::from(self.order[usize::from(turn)])
+        self.turns.signal_at(usize::from(turn))
+    }
+
+    // The signals at the pins of a signal's gate; none where no gate drives it.
+    pub(crate) fn feeders(&self, signal: usize) -> &[u16]
+        ensures is { result.now ≡ feeders_of (signals_of self.now) signal }
+        ensures within { (k : ℕ) → k < length result.now → slice_index result.now k < size_of self.now }
+    {
+        let wires = Wires {
+            signals: &self.signals,
+        };
+        wires.feeders(signal)
     }
 
     /// The signal at a pin that there is.
@@ -65,6 +77,6 @@ impl Network {
         ensures within { result < size_of self.now }
         ensures below { turn_of self.now result < turn_of self.now signal }
     {
-        feeder(&self.signals, signal, pin)
+        usize::from(self.feeders(signal)[pin])
     }
 }
