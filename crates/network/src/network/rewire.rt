@@ -10,7 +10,7 @@ use crate::network::mark::mark_reached;
 use crate::signal::{Driver, Signal};
 
 /// The new feeder is the gate's own signal, or is reached from it.
-#[derive(Clone, Copy)]
+#[derive(Clone, Copy, PartialEq, Eq, Debug)]
 pub struct ClosesCycle;
 
 impl Signal {
@@ -24,10 +24,8 @@ impl Signal {
                 let mut wired = gate;
                 wired.pins[pin] = feeder;
                 Signal {
-                    name: self.name,
                     driver: Driver::Gated(wired),
-                    output: self.output,
-                    captured: self.captured,
+                    ..self
                 }
             }
             Driver::Undriven | Driver::Input | Driver::Latched(_) => unreachable(),
@@ -46,8 +44,7 @@ impl Network {
         ensures { signals_of self.new ≡ rewired_at (signals_of self.old) gate pin feeder }
     {
         self.turns.put_last(marks);
-        let rewired = self.signals[gate].with_feeder(pin, feeder);
-        self.signals[gate] = rewired;
+        self.signals[gate] = self.signals[gate].with_feeder(pin, feeder);
     }
 
     /// Gives a gate's pin another feeder, and the signals turns by which every wire climbs.

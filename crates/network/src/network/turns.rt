@@ -11,33 +11,21 @@ impl Network {
     pub fn get_turn(&self, signal: usize) -> Option<u16>
         ensures { result ≡ turn_if self.now signal }
     {
-        if signal < self.size() {
-            Some(self.turn(signal))
-        } else {
-            None
-        }
+        (signal < self.size()).then(|| self.turn(signal))
     }
 
     /// The signal at a turn.
     pub fn get_signal_at(&self, turn: u16) -> Option<usize>
         ensures { result ≡ signal_at_if self.now turn }
     {
-        if usize::from(turn) < self.size() {
-            Some(self.signal_at(turn))
-        } else {
-            None
-        }
+        (usize::from(turn) < self.size()).then(|| self.signal_at(turn))
     }
 
     /// The signal at a pin.
     pub fn get_feeder(&self, signal: usize, pin: usize) -> Option<usize>
         ensures { result ≡ from_if self.now signal pin }
     {
-        if pin < self.pin_count(signal) {
-            Some(self.feeder(signal, pin))
-        } else {
-            None
-        }
+        (pin < self.pin_count(signal)).then(|| self.feeder(signal, pin))
     }
 
     /// The turn of a signal that there is.

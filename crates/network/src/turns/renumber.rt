@@ -23,8 +23,8 @@ fn number(order: &[u16], marks: &[u8], wanted: bool, first: u16, turn_of: &mut [
     ensures { Numbered (picks marks.now wanted) order.now first (length order.now) turn_of.old turn_of.new result }
 {
     let mut next = first;
-    for turn in 0..order.len() {
-        let signal = usize::from(order[turn]);
+    for listed in order {
+        let signal = usize::from(*listed);
         if is_picked(marks, wanted, signal) {
             turn_of[signal] = next;
             next += 1;
@@ -50,8 +50,8 @@ fn list_by_turn(turn_of: &[u16], order: &mut [u16])
     requires distinct { Distinct turn_of.now (length order.old) }
     ensures { (s : ℕ) → s < length turn_of.now → slice_index order.new (slice_index_or turn_of.now s 0) ≡ s }
 {
-    for signal in 0..turn_of.len() {
-        order[usize::from(turn_of[signal])] = signal as u16;
+    for (signal, turn) in turn_of.iter().enumerate() {
+        order[usize::from(*turn)] = signal as u16;
     }
 }
 

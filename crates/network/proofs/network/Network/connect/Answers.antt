@@ -21,8 +21,8 @@ index-requires c = here c.args.self.now c.args.gate c.args.pin c.requires.there
 read : (net : Network) (gate pin : ℕ) (x : Signal) → pin < pin_count_lem (get_or (signals net) gate absent).driver → x ≡ get_or (signals net) gate x → x ≡ get_or (signals net) gate absent
 read net gate pin x there e = get_or_read_under (signals net) gate (vec_len net.signals) x absent e (here net gate pin there) net.signals.ok.0
 
-pub with_feeder-rewired-requires : goal.with_feeder-rewired-requires
-with_feeder-rewired-requires c =
+pub with_feeder-requires : goal.with_feeder-requires
+with_feeder-requires c =
     let is = read c.args.self.now c.args.gate c.args.pin c.index.result.now c.requires.there c.index.ensures in
     subst (λ (x : Signal). c.args.pin < pin_count_lem x.driver) (sym is) c.requires.there
 
@@ -38,8 +38,8 @@ invariant_of-self c =
     let fed = c.args.feeder in
     let moved = c.put_last.ensures in
     let is = read net gate pin c.index.result.now c.requires.there c.index.ensures in
-    let written : rewired_at xs gate pin fed ≡ set xs gate c.with_feeder-rewired.result = sym (ap (set xs gate) (c.with_feeder-rewired.ensures ∙ ap (λ (x : Signal). rewired x pin fed) is)) in
-    let long : length (set xs gate c.with_feeder-rewired.result) ≡ size net = ap length (sym written) ∙ rewired_length xs gate pin fed in
+    let written : rewired_at xs gate pin fed ≡ set xs gate c.with_feeder.result = sym (ap (set xs gate) (c.with_feeder.ensures ∙ ap (λ (x : Signal). rewired x pin fed) is)) in
+    let long : length (set xs gate c.with_feeder.result) ≡ size net = ap length (sym written) ∙ rewired_length xs gate pin fed in
     let turns' = turns_of c.put_last.new.self in
     record {
       few = subst (λ n. n ≤ max_signals) (sym long) net.few;
@@ -54,4 +54,4 @@ pub returns : goal.returns
 returns c =
     let net = c.args.self.now in
     let is = read net c.args.gate c.args.pin c.index.result.now c.requires.there c.index.ensures in
-    ap (set (signals net) c.args.gate) (c.with_feeder-rewired.ensures ∙ ap (λ (x : Signal). rewired x c.args.pin c.args.feeder) is)
+    ap (set (signals net) c.args.gate) (c.with_feeder.ensures ∙ ap (λ (x : Signal). rewired x c.args.pin c.args.feeder) is)
