@@ -83,17 +83,10 @@ pub fn read_signals(text: &[u8], room: Room) -> Result<Draft, NetlistFault>
     let Room {
         mut signals,
         mut words,
-        mut turn_of,
-        mut order,
+        turns,
     } = room;
     signals.clear();
-    turn_of.clear();
-    order.clear();
     let stage = read_lines(text, &mut words, &mut signals)?;
     check_end(text, stage, &signals)?;
-    Ok(Draft {
-        signals,
-        turn_of,
-        order,
-    })
+    Ok(Draft { signals, turns })
 }

@@ -6,6 +6,7 @@ use crate::limit::MAX_BYTES;
 use network::limit::MAX_SIGNALS;
 use network::signal::Signal;
 use network::span::Span;
+use network::turns::Turns;
 use std::alloc::{AllocError, Global};
 
 /// The memory of one network and of its reading.
@@ -14,12 +15,9 @@ pub struct Room {
     pub(crate) signals: Vec<Signal>,
     /// the words of a line
     pub(crate) words: Vec<Span>,
-    pub(crate) turn_of: Vec<u16>,
-    pub(crate) order: Vec<u16>,
+    pub(crate) turns: Turns,
     ghost named: { max_signals ≤ vec_capacity signals },
     ghost line: { max_bytes ≤ vec_capacity words },
-    ghost turns: { max_signals ≤ vec_capacity turn_of },
-    ghost turned: { max_signals ≤ vec_capacity order },
 }
 
 impl Room {
@@ -27,13 +25,11 @@ impl Room {
     pub fn new(heap: Global) -> Result<Room, AllocError> {
         let signals = Vec::with_capacity(heap, MAX_SIGNALS)?;
         let words = Vec::with_capacity(heap, MAX_BYTES)?;
-        let turn_of = Vec::with_capacity(heap, MAX_SIGNALS)?;
-        let order = Vec::with_capacity(heap, MAX_SIGNALS)?;
+        let turns = Turns::new(heap)?;
         Ok(Room {
             signals,
             words,
-            turn_of,
-            order,
+            turns,
         })
     }
 }

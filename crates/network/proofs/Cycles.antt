@@ -5,8 +5,10 @@ use Rattle.std.proofs.lemmas.Bool.{leb-true}
 use Rattle.network.specs.Ranking.{Ranked, waits}
 use Rattle.network.specs.Reach.{Wire, Reaches, wire, further, Acyclic}
 use Rattle.network.specs.Search.{marked, unmarked}
+use Rattle.network.specs.Turns.{turns_of, turn_in, signal_in}
 use Rattle.network.specs.Wiring.{wires, feeder, Wired, Climbs}
 use Rattle.network.specs.declared.signal.Signal.{Signal}
+use Rattle.network.specs.declared.turns.Turns.{Turns}
 use Rattle.network.proofs.Marks.{all_blank, unmarked_blank, one_fewer}
 use Rattle.network.proofs.Tallies.{some_find}
 use Rattle.network.proofs.Ends.{ends_within, begins_within}
@@ -22,8 +24,8 @@ module _ (xs : List Signal) (turns : List ℕ) (climbs : Climbs xs turns) where
   pub climbing_acyclic : Acyclic xs
   climbing_acyclic s way = let l = way_climbs s s way in omega arith
 
-pub all_climb : (xs : List Signal) (turns order : List ℕ) (n : ℕ) → length xs ≤ n → Ranked xs turns order n → Climbs xs turns
-all_climb xs turns order n all r s k l = r.climbs s k l (omega (arith, all, (r.numbered s (ends_within xs s k l)).0))
+pub all_climb : (xs : List Signal) (turns : Turns) → Ranked xs turns (length xs) → Climbs xs (turns_of turns)
+all_climb xs turns r s k l = r.climbs s k l (omega (arith, ends_within xs s k l, turns.numbered s))
 
 -- Where each signal of U reads another of them and none is on a cycle, there are none: going back from one, what
 -- has no mark yet grows fewer, since none comes back to itself.
@@ -50,13 +52,13 @@ module _ (xs : List Signal) (U : ℕ → Type 0) (wired : Wired xs) (back : (s :
       going_back n (replicate n false) long (omega (arith, unmarked_blank n)) s us (λ v way. all_blank (replicate n false) (unmarked_blank n ∙ sym long) v)
 
 -- where every signal not yet placed waits, some signal is on a cycle
-pub stuck : (xs : List Signal) (turns order : List ℕ) (placed : ℕ) → Wired xs → Ranked xs turns order placed → placed < length xs → ((t : ℕ) → placed ≤ t → t < length xs → waits xs turns placed (get_or order t 0) ≡ true) → Acyclic xs → ⊥
-stuck xs turns order placed wired r more all none =
-    let U : ℕ → Type 0 = λ s. (s < length xs) × (placed ≤ get_or turns s 0) in
+pub stuck : (xs : List Signal) (turns : Turns) (placed : ℕ) → Wired xs → Ranked xs turns placed → placed < length xs → ((t : ℕ) → placed ≤ t → t < length xs → waits xs (turns_of turns) placed (signal_in turns t) ≡ true) → Acyclic xs → ⊥
+stuck xs turns placed wired r more all none =
+    let U : ℕ → Type 0 = λ s. (s < length xs) × (placed ≤ turn_in turns s) in
     let back : (s : ℕ) → U s → (v : ℕ) × Wire xs v s × U v = λ s us.
-    let at = r.numbered s us.0 in
-    let waiting : waits xs turns placed s ≡ true = subst (λ x. waits xs turns placed x ≡ true) at.1 (all (get_or turns s 0) us.1 at.0) in
-    let f = some_find (λ k. leb placed (get_or turns (feeder xs s k) 0)) (wires xs s) waiting in
+    let at = turns.numbered s (omega (arith, us.0, r.counted)) in
+    let waiting : waits xs (turns_of turns) placed s ≡ true = subst (λ x. waits xs (turns_of turns) placed x ≡ true) at.1 (all (turn_in turns s) us.1 (omega (arith, at.0, r.counted))) in
+    let f = some_find (λ k. leb placed (turn_in turns (feeder xs s k))) (wires xs s) waiting in
     (feeder xs s f.0, (f.0, f.1, refl), (wired s f.0 f.1, leb-true placed _ f.2)) in
-    let first = r.listed placed more in
-    never_ends xs U wired back none (get_or order placed 0) (first.0, omega (arith, first.1))
+    let first = turns.listed placed (omega (arith, more, r.counted)) in
+    never_ends xs U wired back none (signal_in turns placed) (omega (arith, first.0, r.counted), omega (arith, first.1))

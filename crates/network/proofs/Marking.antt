@@ -57,7 +57,7 @@ module _ (net : Network) (gate t s : ℕ) (marks : List ℕ) (before : MarkedBel
   earlier : (u : ℕ) → u < size net → turn net u < t + 1 → (u ≡ s → ⊥) → turn net u < t
   earlier u l h ne =
       ⊎_elim
-      (λ e. absurd (ne (sym (net.numbered u l).1 ∙ ap (signal_at_lem net) (e ∙ sym at) ∙ (net.numbered s here).1)))
+      (λ e. absurd (ne (sym (net.turns.numbered u (omega (arith, l, net.counted))).1 ∙ ap (signal_at_lem net) (e ∙ sym at) ∙ (net.turns.numbered s (omega (arith, here, net.counted))).1)))
       (λ other. omega arith)
       (cases_eq (turn net u) t)
 

@@ -1,14 +1,16 @@
 -- One signal more gets its turn.
-use Rattle.std.proofs.Common.{◌≡◌, ℕ, ◌+◌, ◌<◌, ◌≤◌, false, leb, List, length, get_or, set, sym, refl, ap, ◌∙◌, subst, ⊎_elim, zero-add, arith}
-use Rattle.std.specs.List.{range_with_len}
-use Rattle.std.proofs.lemmas.List.FromFn.{get_or-range_with_len}
+use Rattle.std.proofs.Common.{◌≡◌, ℕ, ◌+◌, ◌<◌, ◌≤◌, false, leb, List, length, get_or, sym, refl, ap, ◌∙◌, subst, ⊎_elim, zero-add, arith}
+use Rattle.std.specs.List.{range_with_len, swap}
+use Rattle.std.proofs.lemmas.List.Edits.{Swapped, swapped_from_swap, length-swap}
+use Rattle.std.proofs.lemmas.List.FromFn.{get_or-range_with_len, length-range_with_len}
 use Rattle.std.proofs.lemmas.Bool.{cases_eq, cases_lt, both_ways, le-leb}
 use Rattle.network.specs.Ranking.{Ranked, waits}
-use Rattle.network.specs.Wiring.{wires, feeder, Inverse}
+use Rattle.network.specs.Turns.{turns_of, order_of, count_of, turn_in, signal_in}
+use Rattle.network.specs.Wiring.{wires, feeder, Wired, Inverse}
 use Rattle.network.specs.declared.signal.Signal.{Signal}
+use Rattle.network.specs.declared.turns.Turns.{Turns}
 use Rattle.network.proofs.Tallies.{some_yes}
 use Rattle.network.proofs.Ends.{ends_within}
-use Rattle.network.proofs.Swapping.{swapped, x_now, y_now, others_now}
 
 -- what waits for none reads placed signals alone
 reads_placed : (xs : List Signal) (turns : List ℕ) (placed s k : ℕ) → waits xs turns placed s ≡ false → k < wires xs s → get_or turns (feeder xs s k) 0 < placed
@@ -19,92 +21,76 @@ reads_placed xs turns placed s k z l =
     (cases_lt (get_or turns (feeder xs s k) 0) placed)
 
 -- the signal y at a later turn b is placed, and x at the turn a goes there instead
-module _ (xs : List Signal) (turns order : List ℕ) (a b : ℕ) (long : length turns ≡ length xs) (wide : length order ≡ length xs) (before : Ranked xs turns order a) (later : a ≤ b) (here : b < length xs) (ready : waits xs turns a (get_or order b 0) ≡ false) where
-  abbrev n : ℕ
-  n = length xs
-
+module _ (xs : List Signal) (wired : Wired xs) (turns turns' : Turns) (a b : ℕ) (before : Ranked xs turns a) (later : a ≤ b) (here : b < length xs) (ready : waits xs (turns_of turns) a (signal_in turns b) ≡ false) (swapped : order_of turns' ≡ swap (order_of turns) a b) where
   abbrev x : ℕ
-  x = get_or order a 0
+  x = signal_in turns a
 
   abbrev y : ℕ
-  y = get_or order b 0
+  y = signal_in turns b
 
-  abbrev order' : List ℕ
-  order' = set (set order a y) b x
+  moved : Swapped (signal_in turns) (signal_in turns') a b
+  moved = swapped_from_swap (order_of turns) (order_of turns') a b 0 (omega (arith, turns.long, before.counted)) (omega (arith, turns.long, before.counted)) swapped
 
-  abbrev turns' : List ℕ
-  turns' = set (set turns y a) x b
+  same_count : count_of turns' ≡ length xs
+  same_count = omega (arith, turns.long, turns'.long, ap length swapped, length-swap (order_of turns) a b, before.counted)
 
-  la : a < n
-  la = omega arith
+  at' : (t : ℕ) → t < length xs → turn_in turns' (signal_in turns' t) ≡ t
+  at' t l = (turns'.listed t (omega (arith, same_count))).1
 
-  x_turn : get_or turns x 0 ≡ a
-  x_turn = (before.listed a la).1
+  turns_x : turn_in turns' x ≡ b
+  turns_x = subst (λ v. turn_in turns' v ≡ b) moved.1 (at' b here)
 
-  y_turn : get_or turns y 0 ≡ b
-  y_turn = (before.listed b here).1
+  turns_y : turn_in turns' y ≡ a
+  turns_y = subst (λ v. turn_in turns' v ≡ a) moved.0 (at' a (omega arith))
 
-  listed' : Inverse order' turns' n
-  listed' = swapped order turns n a b x y wide long before.listed la here refl refl
-
-  numbered' : Inverse turns' order' n
-  numbered' = swapped turns order n y x b a long wide before.numbered (before.listed b here).0 (before.listed a la).0 y_turn x_turn
-
-  turns_x : get_or turns' x 0 ≡ b
-  turns_x = x_now order turns n a b x y wide long before.listed la here refl refl
-
-  turns_y : get_or turns' y 0 ≡ a
-  turns_y = y_now order turns n a b x y wide long before.listed la here refl refl
-
-  turns_other : (s : ℕ) → (s ≡ x → ⊥) → (s ≡ y → ⊥) → get_or turns' s 0 ≡ get_or turns s 0
-  turns_other = others_now order turns n a b x y wide long before.listed la here refl refl
+  turns_other : (s : ℕ) → s < length xs → (s ≡ x → ⊥) → (s ≡ y → ⊥) → turn_in turns' s ≡ turn_in turns s
+  turns_other s l nx ny =
+      let t = turn_in turns s in
+      let was = turns.numbered s (omega (arith, before.counted)) in
+      let now = moved.2 t (λ e. nx (sym was.1 ∙ ap (signal_in turns) e)) (λ e. ny (sym was.1 ∙ ap (signal_in turns) e)) in
+      subst (λ v. turn_in turns' v ≡ t) (now ∙ was.1) (at' t (omega (arith, was.0, before.counted)))
 
   -- what had one of the first turns keeps it
-  kept : (v : ℕ) → get_or turns v 0 < a → get_or turns' v 0 ≡ get_or turns v 0
-  kept v l =
-      turns_other v
-      (λ e. let q = ap (λ s. get_or turns s 0) e ∙ x_turn in omega arith)
-      (λ e. let q = ap (λ s. get_or turns s 0) e ∙ y_turn in omega arith)
+  kept : (v : ℕ) → v < length xs → turn_in turns v < a → turn_in turns' v ≡ turn_in turns v
+  kept v there l =
+      turns_other v there
+      (λ e. let q = ap (turn_in turns) e ∙ (turns.listed a (omega (arith, before.counted))).1 in omega arith)
+      (λ e. let q = ap (turn_in turns) e ∙ (turns.listed b (omega (arith, before.counted))).1 in omega arith)
 
-  climbs' : (s k : ℕ) → k < wires xs s → get_or turns' s 0 < a + 1 → get_or turns' (feeder xs s k) 0 < get_or turns' s 0
+  climbs' : (s k : ℕ) → k < wires xs s → turn_in turns' s < a + 1 → turn_in turns' (feeder xs s k) < turn_in turns' s
   climbs' s k w l =
+      let v = feeder xs s k in
       ⊎_elim
       (λ e.
-      let v = feeder xs s k in
-      let low : get_or turns v 0 < a = reads_placed xs turns a s k (subst (λ u. waits xs turns a u ≡ false) (sym e) ready) w in
-      let now' : get_or turns' s 0 ≡ a = ap (λ u. get_or turns' u 0) e ∙ turns_y in
-      let old = kept v low in
+      let low : turn_in turns v < a = reads_placed xs (turns_of turns) a s k (subst (λ u. waits xs (turns_of turns) a u ≡ false) (sym e) ready) w in
+      let now' : turn_in turns' s ≡ a = ap (turn_in turns') e ∙ turns_y in
+      let old = kept v (wired s k w) low in
       omega arith)
       (λ ny.
       ⊎_elim
       (λ e.
-      let now' : get_or turns' s 0 ≡ b = ap (λ u. get_or turns' u 0) e ∙ turns_x in
+      let now' : turn_in turns' s ≡ b = ap (turn_in turns') e ∙ turns_x in
       let same : a ≡ b = omega arith in
-      absurd (ny (e ∙ ap (λ t. get_or order t 0) same)))
+      absurd (ny (e ∙ ap (signal_in turns) same)))
       (λ nx.
-      let was : get_or turns' s 0 ≡ get_or turns s 0 = turns_other s nx ny in
-      let inside : s < n = ends_within xs s k w in
-      let na : get_or turns s 0 ≡ a → ⊥ = λ q. nx (sym (before.numbered s inside).1 ∙ ap (λ t. get_or order t 0) q) in
-      let low : get_or turns s 0 < a = omega arith in
+      let inside : s < length xs = ends_within xs s k w in
+      let was = turns.numbered s (omega (arith, inside, before.counted)) in
+      let same : turn_in turns' s ≡ turn_in turns s = turns_other s inside nx ny in
+      let na : turn_in turns s ≡ a → ⊥ = λ q. nx (sym was.1 ∙ ap (signal_in turns) q) in
+      let low : turn_in turns s < a = omega arith in
       let climb = before.climbs s k w low in
-      let old = kept (feeder xs s k) (omega arith) in
+      let old = kept v (wired s k w) (omega arith) in
       omega arith)
       (cases_eq s x))
       (cases_eq s y)
 
-  pub placed : Ranked xs turns' order' (a + 1)
-  placed = record { numbered = numbered'; listed = listed'; climbs = climbs' }
+  pub placed : Ranked xs turns' (a + 1)
+  placed = record { counted = same_count; climbs = climbs' }
 
--- at first each signal has its own number for its turn
-pub none_placed : (xs : List Signal) → Ranked xs (range_with_len 0 (length xs)) (range_with_len 0 (length xs)) 0
-none_placed xs =
-    let n = length xs in
-    let at : (i : ℕ) → i < n → get_or (range_with_len 0 n) i 0 ≡ i = λ i l. get_or-range_with_len 0 n i 0 l ∙ zero-add i in
-    let both : Inverse (range_with_len 0 n) (range_with_len 0 n) n = λ i l. subst (λ x. (x < n) × (get_or (range_with_len 0 n) x 0 ≡ i)) (sym (at i l)) (l, at i l) in
-    record { numbered = both; listed = both; climbs = λ s k w l. absurd (omega arith) }
-
--- what is known of lists, known of lists that are the same
-pub ranked_as : {xs ys : List Signal} {turns turns' order order' : List ℕ} {placed : ℕ} → xs ≡ ys → turns' ≡ turns → order' ≡ order → Ranked xs turns order placed → Ranked ys turns' order' placed
-ranked_as {xs} {ys} {turns} {turns'} {order} {order'} {placed} x t o r =
-    subst (λ zs. Ranked zs turns' order' placed) x
-    (subst (λ us. Ranked xs us order' placed) (sym t) (subst (λ us. Ranked xs turns us placed) (sym o) r))
+-- lists that give each number itself
+pub counting : (xs ys zs : List ℕ) (n : ℕ) → xs ≡ range_with_len 0 n → ys ≡ range_with_len 0 n → zs ≡ range_with_len 0 n → Inverse xs ys (length zs)
+counting xs ys zs n e f g i l =
+    let long = ap length g ∙ length-range_with_len 0 n in
+    let at : (us : List ℕ) → us ≡ range_with_len 0 n → get_or us i 0 ≡ i = λ us h. ap (λ (vs : List ℕ). get_or vs i 0) h ∙ get_or-range_with_len 0 n i 0 (omega arith) ∙ zero-add i in
+    let here = at xs e in
+    (omega arith, ap (λ j. get_or ys j 0) here ∙ at ys f)

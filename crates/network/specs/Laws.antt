@@ -1,4 +1,5 @@
 -- What holds of the turns of every network.
+use Rattle.std.proofs.Common.{arith}
 use Rattle.std.specs.Prelude.{◌≡◌, ℕ, ◌<◌}
 use Rattle.network.specs.Net.{signals, size, turn, signal_at_lem}
 use Rattle.network.specs.Reach.{Wire}
@@ -13,3 +14,13 @@ abbrev pub TurnsNumber : Network → Type 0
 TurnsNumber net =
     ((s : ℕ) → s < size net → (turn net s < size net) × (signal_at_lem net (turn net s) ≡ s))
     × ((t : ℕ) → t < size net → (signal_at_lem net t < size net) × (turn net (signal_at_lem net t) ≡ t))
+
+pub turns_numbered : (net : Network) → TurnsNumber net
+turns_numbered net = (
+  λ s l.
+      let at = net.turns.numbered s (omega (arith, l, net.counted)) in
+      (omega (arith, at.0, net.counted), at.1),
+  λ t l.
+      let at = net.turns.listed t (omega (arith, l, net.counted)) in
+      (omega (arith, at.0, net.counted), at.1),
+)

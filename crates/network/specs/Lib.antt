@@ -11,4 +11,5 @@ pub mod Search
 pub mod Senses
 pub mod Tally
 pub mod Truth
+pub mod Turns
 pub mod Wiring

@@ -1,8 +1,9 @@
 -- What a network says of its signals and their turns.
-use Rattle.std.specs.Prelude.{ℕ, Bool, ◌||◌, List, length, vec_items, Option, nat_lt, slice_index, slice_index_or}
+use Rattle.std.specs.Prelude.{ℕ, Bool, ◌||◌, List, length, vec_items, Option, nat_lt, slice_index_or}
 use Rattle.std.specs.List.{slice_get}
 use Rattle.std.specs.Option.{option_map}
 use Rattle.std.specs.Bool.{then_some}
+use Rattle.network.specs.Turns.{turn_in, signal_in}
 use Rattle.network.specs.Wiring.{absent, is_source, driver, wires, feeder}
 use Rattle.network.specs.declared.network.Network.{Network}
 use Rattle.network.specs.declared.signal.Driver.{Driver}
@@ -46,10 +47,10 @@ from net s k = feeder (signals net) s k
 
 -- the turn of a signal, and the signal at a turn
 abbrev pub turn : Network → ℕ → ℕ
-turn net s = slice_index (vec_items net.turn_of) s
+turn net s = turn_in net.turns s
 
 abbrev pub signal_at_lem : Network → ℕ → ℕ
-signal_at_lem net t = slice_index (vec_items net.order) t
+signal_at_lem net t = signal_in net.turns t
 
 -- the same, where there is such a signal, turn or pin
 abbrev pub turn_if : Network → ℕ → Option ℕ

@@ -1,14 +1,15 @@
 -- Signals that get their turns one by one.
 use Rattle.std.specs.Prelude.{◌≡◌, ℕ, ◌<◌, ◌≤◌, Bool, true, false, List, length, Some, None, Option, nat_le, slice_index}
 use Rattle.network.specs.Tally.{some}
-use Rattle.network.specs.Wiring.{wires, feeder, Inverse}
+use Rattle.network.specs.Turns.{count_of, turn_in}
+use Rattle.network.specs.Wiring.{wires, feeder}
 use Rattle.network.specs.declared.signal.Signal.{Signal}
+use Rattle.network.specs.declared.turns.Turns.{Turns}
 
--- the turns and the order number the signals, and every wire climbs that ends at one of the first turns
-pub record Ranked (xs : List Signal) (turns order : List ℕ) (placed : ℕ) : Type 0 where
-  pub numbered : Inverse turns order (length xs)
-  pub listed : Inverse order turns (length xs)
-  pub climbs : (s k : ℕ) → k < wires xs s → slice_index turns s < placed → slice_index turns (feeder xs s k) < slice_index turns s
+-- each signal has a turn, and every wire climbs that ends at one of the first turns
+pub record Ranked (xs : List Signal) (turns : Turns) (placed : ℕ) : Type 0 where
+  pub counted : count_of turns ≡ length xs
+  pub climbs : (s k : ℕ) → k < wires xs s → turn_in turns s < placed → turn_in turns (feeder xs s k) < turn_in turns s
 
 -- a pin of s reads a signal that has none of the first turns
 abbrev pub waits : List Signal → List ℕ → ℕ → ℕ → Bool

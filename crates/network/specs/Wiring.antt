@@ -1,5 +1,5 @@
 -- What a list of signals says of drivers and wires.
-use Rattle.std.specs.Prelude.{◌≡◌, ℕ, ◌<◌, Bool, true, false, List, length, slice_index, slice_index_or}
+use Rattle.std.specs.Prelude.{◌≡◌, ℕ, ◌<◌, Bool, true, false, List, [], length, take, slice_index, slice_index_or}
 use Rattle.network.specs.declared.signal.Signal.{Signal}
 use Rattle.network.specs.declared.signal.Driver.{Driver}
 use Rattle.network.specs.declared.signal.Driver.TheVariants.{Undriven, Input, Latched, Gated}
@@ -32,6 +32,13 @@ signal_at_pin Input k = 0
 signal_at_pin (Latched l) k = 0
 signal_at_pin (Gated g) k = slice_index g.pins k
 
+-- the signals at its pins, in order
+abbrev pub pins_of : Driver → List ℕ
+pins_of Undriven = []
+pins_of Input = []
+pins_of (Latched l) = []
+pins_of (Gated g) = take g.pin_count g.pins
+
 -- the driver is a latch that reads the signal d
 abbrev pub Captures : Driver → ℕ → Type 0
 Captures Undriven d = ⊥
@@ -53,6 +60,10 @@ wires xs s = pin_count_lem (driver xs s)
 
 abbrev pub feeder : List Signal → ℕ → ℕ → ℕ
 feeder xs s k = signal_at_pin (driver xs s) k
+
+-- the signals where they begin
+abbrev pub feeders : List Signal → ℕ → List ℕ
+feeders xs s = pins_of (driver xs s)
 
 -- every signal has a driver
 abbrev pub Driven : List Signal → Type 0

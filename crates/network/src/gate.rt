@@ -1,4 +1,4 @@
-ghost use Rattle.std.specs.Prelude.{◌≤◌, length};
+ghost use Rattle.std.specs.Prelude.{◌≡◌, ◌≤◌, length, take};
 
 mod senses;
 mod truth;
@@ -6,6 +6,7 @@ mod truth;
 /// A gate: the signals at its pins, and its rows.
 #[derive(Clone, Copy)]
 pub struct Gate {
+    // an array with a count: a gate is copied, and memory is asked for once alone
     pub pins: [u16; 4],
     pub pin_count: u8,
     /// bit s: some row matches setting s, in which pin j weighs 2^j
@@ -14,4 +15,13 @@ pub struct Gate {
     pub last_word: Option<bool>,
     ghost few: { pin_count ≤ 4 },
     ghost wide: { 4 ≤ length pins },
+}
+
+impl Gate {
+    // The signals at its pins.
+    pub(crate) fn pins(&self) -> &[u16]
+        ensures { result.now ≡ take self.now.pin_count self.now.pins }
+    {
+        &self.pins[..usize::from(self.pin_count)]
+    }
 }

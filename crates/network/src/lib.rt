@@ -10,4 +10,5 @@ mod ranking;
 pub mod sense;
 pub mod signal;
 pub mod span;
+pub mod turns;
 mod wires;

@@ -1,15 +1,16 @@
 // A network without cycles.
-ghost use Rattle.std.specs.Prelude.{◌≡◌, ◌≤◌, length, vec_len};
+ghost use Rattle.std.specs.Prelude.{◌≡◌, ◌≤◌, length};
 ghost use Rattle.network.specs.Limit.{max_signals};
-ghost use Rattle.network.specs.Wiring.{Driven, Wired, LatchesWired, Climbs, Inverse};
+ghost use Rattle.network.specs.Turns.{count_of, turns_of};
+ghost use Rattle.network.specs.Wiring.{Driven, Wired, LatchesWired, Climbs};
 
 use crate::signal::Signal;
+use crate::turns::Turns;
 
 mod build;
 mod laws;
 pub mod mark;
 mod reads;
-mod renumber;
 pub mod rewire;
 mod turns;
 
@@ -17,15 +18,11 @@ mod turns;
 #[derive(Drop)]
 pub struct Network {
     signals: Vec<Signal>,
-    turn_of: Vec<u16>,
-    order: Vec<u16>,
+    turns: Turns,
     ghost few: { length signals.items ≤ max_signals },
     ghost driven: { Driven signals.items },
     ghost wired: { Wired signals.items },
     ghost latched: { LatchesWired signals.items },
-    ghost turns: { vec_len turn_of ≡ length signals.items },
-    ghost orders: { vec_len order ≡ length signals.items },
-    ghost numbered: { Inverse turn_of.items order.items (length signals.items) },
-    ghost listed: { Inverse order.items turn_of.items (length signals.items) },
-    ghost climbs: { Climbs signals.items turn_of.items },
+    ghost counted: { count_of turns ≡ length signals.items },
+    ghost climbs: { Climbs signals.items (turns_of turns) },
 }

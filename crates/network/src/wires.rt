@@ -1,33 +1,39 @@
 // The wires of a list of signals.
-ghost use Rattle.std.specs.Prelude.{◌≡◌, ◌<◌, ◌≤◌, length};
-ghost use Rattle.network.specs.Wiring.{wires, feeder as feeder_of};
+ghost use Rattle.std.specs.Prelude.{◌≡◌, ℕ, ◌<◌, ◌≤◌, length, slice_index};
+ghost use Rattle.network.specs.Limit.{max_signals};
+ghost use Rattle.network.specs.Wiring.{Wired, wires, feeders as feeders_of};
 
 use crate::signal::{Driver, Signal};
 
-// How many pins the signal's gate has; 0 where no gate drives it.
-pub(crate) fn pin_count(signals: &[Signal], signal: usize) -> usize
-    ensures is { result ≡ wires signals.now signal }
-    ensures few { result ≤ 4 }
+// The signals at the pins of a signal's gate; none where no gate drives it.
+pub(crate) fn feeders(signals: &[Signal], signal: usize) -> &[u16]
+    ensures { result.now ≡ feeders_of signals.now signal }
 {
-    if signal >= signals.len() {
-        return 0;
-    }
-    let driven = &signals[signal];
-    match driven.driver {
-        Driver::Gated(gate) => usize::from(gate.pin_count),
-        Driver::Undriven | Driver::Input | Driver::Latched(_) => 0,
+    match signals.get(signal) {
+        Some(
+            Signal {
+                driver: Driver::Gated(gate),
+                ..
+            },
+        ) => gate.pins(),
+        _ => &[],
     }
 }
 
-// The signal at a pin.
-pub(crate) fn feeder(signals: &[Signal], signal: usize, pin: usize) -> usize
-    requires here { signal < length signals.now }
-    requires there { pin < wires signals.now signal }
-    ensures { result ≡ feeder_of signals.now signal pin }
-{
-    let driven = &signals[signal];
-    match driven.driver {
-        Driver::Gated(gate) => usize::from(gate.pins[pin]),
-        Driver::Undriven | Driver::Input | Driver::Latched(_) => unreachable(),
+/// Signals, each pin of which reads one of them.
+#[derive(Clone, Copy)]
+pub(crate) struct Wires<'a> {
+    pub(crate) signals: &'a [Signal],
+    ghost few: { length signals.now ≤ max_signals },
+    ghost wired: { Wired signals.now },
+}
+
+impl<'a> Wires<'a> {
+    // The signals at the pins of a signal's gate; none where no gate drives it.
+    pub(crate) fn feeders(self, signal: usize) -> &'a [u16]
+        ensures is { result.now ≡ feeders_of self.entry.signals.now signal }
+        ensures within { (k : ℕ) → k < length result.now → slice_index result.now k < length self.entry.signals.now }
+    {
+        feeders(self.signals, signal)
     }
 }

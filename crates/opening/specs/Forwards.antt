@@ -4,6 +4,7 @@ use Rattle.std.specs.Prelude.{ℕ, ◌+◌, ◌*◌, ◌<◌, ◌≤◌, map}
 use Rattle.std.specs.List.{range_with_len, AllByRecursion}
 use Rattle.std.proofs.lemmas.List.FromFn.{length-map-range_with_len, get_or-map-range_with_len}
 use Rattle.std.proofs.ByRecursion.{All-from_get_or}
+use Rattle.network.specs.Laws.{turns_numbered}
 use Rattle.network.specs.Net.{size, fanin, from, turn, signal_at_lem}
 use Rattle.network.specs.declared.network.Network.{Network}
 use Rattle.opening.specs.declared.forwards.Forwards.{Forwards}
@@ -32,10 +33,10 @@ all_counted P f n each =
 
 pub forwards_sound : (net : Network) → Sound (forwards net)
 forwards_sound net = record {
-  turn_below = λ s h. (net.numbered s h).0;
-  turn_back = λ s h. (net.numbered s h).1;
-  signal_below = λ t h. (net.listed t h).0;
-  signal_back = λ t h. (net.listed t h).1;
+  turn_below = λ s h. ((turns_numbered net).0 s h).0;
+  turn_back = λ s h. ((turns_numbered net).0 s h).1;
+  signal_below = λ t h. ((turns_numbered net).1 t h).0;
+  signal_back = λ t h. ((turns_numbered net).1 t h).1;
   climbs = λ s h. all_counted _ (tap_of net s) (fanin net s) (λ k there. (net.wired s k there, net.climbs s k there));
 }
 

@@ -10,11 +10,7 @@ use crate::sense::Sense;
 fn goes_to(to: bool, before: bool, after: bool) -> bool
     ensures { result ≡ goes_to_lem to before after }
 {
-    if to {
-        !before && after
-    } else {
-        before && !after
-    }
+    before != after && after == to
 }
 
 // What the pin weighs in a setting's number.
@@ -49,15 +45,8 @@ impl Gate {
     fn moves(&self, pin: usize, to: bool) -> bool
         ensures { result ≡ moved self.now pin to }
     {
-        if pin >= usize::from(self.pin_count) {
-            return false;
-        }
-        for setting in 0..self.settings() {
-            if self.moves_in(pin, to, setting) {
-                return true;
-            }
-        }
-        false
+        pin < usize::from(self.pin_count)
+            && (0..self.settings()).any(|setting| self.moves_in(pin, to, setting))
     }
 
     /// For some setting of the others, switching the pin from 0 to 1 takes the gate from 0 to 1.

@@ -11,12 +11,9 @@ fn reads_marked(net: &Network, strip: &[u8], signal: usize) -> bool
     requires { size net.now ≤ length strip.now }
     ensures { result ≡ some (λ k. marked strip.now (from net.now signal k)) (fanin net.now signal) }
 {
-    for pin in 0..net.pin_count(signal) {
-        if strip[net.feeder(signal, pin)] != 0 {
-            return true;
-        }
-    }
-    false
+    net.feeders(signal)
+        .iter()
+        .any(|feeder| strip[usize::from(*feeder)] != 0)
 }
 
 // Marks the signal of a turn if it is the gate or reads a marked one.

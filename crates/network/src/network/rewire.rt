@@ -7,11 +7,10 @@ ghost use Rattle.network.specs.Wiring.{pin_count_lem};
 
 use crate::network::Network;
 use crate::network::mark::mark_reached;
-use crate::network::renumber::{list_by_turn, renumber};
 use crate::signal::{Driver, Signal};
 
 /// The new feeder is the gate's own signal, or is reached from it.
-#[derive(Clone, Copy)]
+#[derive(Clone, Copy, PartialEq, Eq, Debug)]
 pub struct ClosesCycle;
 
 impl Signal {
@@ -25,10 +24,8 @@ impl Signal {
                 let mut wired = gate;
                 wired.pins[pin] = feeder;
                 Signal {
-                    name: self.name,
                     driver: Driver::Gated(wired),
-                    output: self.output,
-                    captured: self.captured,
+                    ..self
                 }
             }
             Driver::Undriven | Driver::Input | Driver::Latched(_) => unreachable(),
@@ -46,10 +43,8 @@ impl Network {
         requires apart { marked marks.now feeder ≡ false }
         ensures { signals_of self.new ≡ rewired_at (signals_of self.old) gate pin feeder }
     {
-        renumber(&self.order, marks, &mut self.turn_of);
-        list_by_turn(&self.turn_of, &mut self.order);
-        let rewired = self.signals[gate].with_feeder(pin, feeder);
-        self.signals[gate] = rewired;
+        self.turns.put_last(marks);
+        self.signals[gate] = self.signals[gate].with_feeder(pin, feeder);
     }
 
     /// Gives a gate's pin another feeder, and the signals turns by which every wire climbs.

@@ -1,42 +1,31 @@
 // Turns and wires: for every number, and lean where the number is known to be one.
-ghost use Rattle.std.specs.Prelude.{◌≡◌, ◌<◌};
-ghost use Rattle.network.specs.Net.{size as size_of, turn as turn_of, signal_at_lem, fanin, from, turn_if, signal_at_if, from_if};
+ghost use Rattle.std.specs.Prelude.{◌≡◌, ℕ, ◌<◌, length, slice_index};
+ghost use Rattle.network.specs.Net.{signals as signals_of, size as size_of, turn as turn_of, signal_at_lem, fanin, from, turn_if, signal_at_if, from_if};
+ghost use Rattle.network.specs.Wiring.{feeders as feeders_of};
 
 use crate::network::Network;
-use crate::wires::feeder;
+use crate::wires::Wires;
 
 impl Network {
     /// The turn of a signal.
     pub fn get_turn(&self, signal: usize) -> Option<u16>
         ensures { result ≡ turn_if self.now signal }
     {
-        if signal < self.size() {
-            Some(self.turn(signal))
-        } else {
-            None
-        }
+        (signal < self.size()).then(|| self.turn(signal))
     }
 
     /// The signal at a turn.
     pub fn get_signal_at(&self, turn: u16) -> Option<usize>
         ensures { result ≡ signal_at_if self.now turn }
     {
-        if usize::from(turn) < self.size() {
-            Some(self.signal_at(turn))
-        } else {
-            None
-        }
+        (usize::from(turn) < self.size()).then(|| self.signal_at(turn))
     }
 
     /// The signal at a pin.
     pub fn get_feeder(&self, signal: usize, pin: usize) -> Option<usize>
         ensures { result ≡ from_if self.now signal pin }
     {
-        if pin < self.pin_count(signal) {
-            Some(self.feeder(signal, pin))
-        } else {
-            None
-        }
+        (pin < self.pin_count(signal)).then(|| self.feeder(signal, pin))
     }
 
     /// The turn of a signal that there is.
@@ -45,7 +34,7 @@ impl Network {
         ensures is { result ≡ turn_of self.now signal }
         ensures within { result < size_of self.now }
     {
-        self.turn_of[signal]
+        self.turns.turn(signal)
     }
 
     /// The signal at a turn that there is.
@@ -55,7 +44,18 @@ impl Network {
         ensures within { result < size_of self.now }
         ensures back { turn_of self.now result ≡ turn }
     {
-        usize::from(self.order[usize::from(turn)])
+        self.turns.signal_at(usize::from(turn))
+    }
+
+    // The signals at the pins of a signal's gate; none where no gate drives it.
+    pub(crate) fn feeders(&self, signal: usize) -> &[u16]
+        ensures is { result.now ≡ feeders_of (signals_of self.now) signal }
+        ensures within { (k : ℕ) → k < length result.now → slice_index result.now k < size_of self.now }
+    {
+        let wires = Wires {
+            signals: &self.signals,
+        };
+        wires.feeders(signal)
     }
 
     /// The signal at a pin that there is.
@@ -65,6 +65,6 @@ impl Network {
         ensures within { result < size_of self.now }
         ensures below { turn_of self.now result < turn_of self.now signal }
     {
-        feeder(&self.signals, signal, pin)
+        usize::from(self.feeders(signal)[pin])
     }
 }

@@ -1,18 +1,16 @@
-use Rattle.std.proofs.Common.{◌≡◌, ℕ, ◌^◌, ◌<◌, Bool, true, sym, arith}
-use Rattle.std.proofs.lemmas.Bool.{and_from, lt-ltb}
-use Rattle.network.specs.Senses.{moves_in_lem, moves}
-use Rattle.network.specs.declared.gate.Gate.{Gate}
-use Rattle.network.proofs.Tallies.{some_yes, some_more}
+use Rattle.std.proofs.Common.{◌≡◌, ap, ◌∙◌, arith, rules, tests}
+use Rattle.std.specs.List.{list_any, range_with_len}
+use Rattle.std.proofs.lemmas.Iterator.{YieldsList-from_range}
+use Rattle.std.proofs.lemmas.Iterator.Search.{any_from_yields_List}
+use Rattle.network.specs.Senses.{moves_in_lem}
+use Rattle.network.specs.Tally.{some}
+use Rattle.network.proofs.Tallies.{some_range}
 use Rattle.network.proofs.gate.Gate.moves.Goals as goal
 
-moves_by : (gate : Gate) (pin setting : ℕ) (to : Bool) → pin < gate.pin_count → setting < 2 ^ gate.pin_count → true ≡ moves_in_lem gate pin to setting → true ≡ moves gate pin to
-moves_by gate pin setting to there below moved =
-    sym (and_from _ _ (lt-ltb pin gate.pin_count there) (some_yes (moves_in_lem gate pin to) (2 ^ gate.pin_count) setting below (sym moved)))
-
-pub returns-then-moves_in : goal.returns-then-moves_in
-returns-then-moves_in c =
-    moves_by c.args.self.now c.args.pin c.loop-setting.setting c.args.to (omega (arith, c.if-pin-from.false, c.from.ensures)) (omega (arith, c.settings-setting-end.ensures.is)) c.if-moves_in.ensures
-
-pub loop-setting-preserved : goal.loop-setting-preserved
-loop-setting-preserved c =
-    some_more (moves_in_lem c.args.self.now c.args.pin c.args.to) c.loop-setting.setting c.loop-setting.invariant (sym c.if-moves_in.ensures)
+pub returns-then-pin-from : goal.returns-then-pin-from
+returns-then-pin-from c =
+    let test = moves_in_lem c.args.self.now c.args.pin c.args.to in
+    let n = c.settings.result in
+    let called : c.any.result ≡ list_any test (range_with_len 0 n) = any_from_yields_List test _ _ c.any.result c.any.ensures.ran (YieldsList-from_range 0 n n (cc) (omega arith)) (λ x b q k. search (rules, tests)) in
+    let is = called ∙ some_range test n ∙ ap (some test) c.settings.ensures.is in
+    search (rules, tests, is)

@@ -1,22 +1,24 @@
-use Rattle.std.proofs.Common.{◌≡◌, ℕ, Bool, true, false, get_or, sym, subst, arith}
-use Rattle.std.proofs.lemmas.Bool.{eq-eqb, ne_eqb, not_from_true, not_from_false}
+use Rattle.std.proofs.Common.{◌≡◌, ◌<◌, length, ap, ◌∙◌, arith, rules, tests}
+use Rattle.std.specs.List.{list_any}
+use Rattle.std.proofs.iter.Serving.{serving}
+use Rattle.std.proofs.lemmas.List.{get_or_read}
+use Rattle.std.proofs.lemmas.Iterator.{YieldsList-from_slice}
+use Rattle.std.proofs.lemmas.Iterator.Adapters.{serves_from_places}
+use Rattle.std.proofs.lemmas.Iterator.Search.{any_from_yields_List}
 use Rattle.network.specs.Marks.{marked}
-use Rattle.network.specs.Net.{from, fanin}
-use Rattle.network.proofs.Tallies.{some_yes, some_more}
+use Rattle.network.specs.Net.{signals}
+use Rattle.network.proofs.Pins.{some_feeder}
 use Rattle.network.proofs.network.mark.reads_marked.Goals as goal
 
-pub returns-then-strip-feeder-ne0 : goal.returns-then-strip-feeder-ne0
-returns-then-strip-feeder-ne0 c =
-    let net = c.args.net.now in
-    let strip = c.args.strip.now in
-    let test : ℕ → Bool = λ k. marked strip (from net c.args.signal k) in
-    let here : test c.loop-pin.pin ≡ true = subst (λ x. marked strip x ≡ true) c.feeder.ensures.is (not_from_false _ (ne_eqb (get_or strip c.feeder.result 0) 0 c.if-strip-feeder-ne0.true)) in
-    sym (some_yes test (fanin net c.args.signal) c.loop-pin.pin (omega arith) here)
+pub any-requires-clause-callable : goal.any-requires-clause-callable
+any-requires-clause-callable c =
+    serves_from_places (YieldsList-from_slice c.feeders.result.now cc) (λ x q k. search rules)
+    (λ x k l at.
+    let below : x.now < length c.args.strip.now = omega (arith, get_or_read c.feeders.result.now k x.now l at 0, c.feeders.ensures.within k l, c.requires) in
+    grind serving)
 
-pub loop-pin-preserved : goal.loop-pin-preserved
-loop-pin-preserved c =
-    let net = c.args.net.now in
+pub returns : goal.returns
+returns c =
     let strip = c.args.strip.now in
-    let test : ℕ → Bool = λ k. marked strip (from net c.args.signal k) in
-    let here : test c.loop-pin.pin ≡ false = subst (λ x. marked strip x ≡ false) c.feeder.ensures.is (not_from_true _ (eq-eqb (get_or strip c.feeder.result 0) 0 c.if-strip-feeder-ne0.false)) in
-    some_more test c.loop-pin.pin c.loop-pin.invariant here
+    let called : c.any.result ≡ list_any (marked strip) c.feeders.result.now = any_from_yields_List (marked strip) _ _ c.any.result c.any.ensures.ran (YieldsList-from_slice c.feeders.result.now cc) (λ x b q k. search (rules, tests)) in
+    called ∙ ap (list_any (marked strip)) c.feeders.ensures.is ∙ some_feeder (marked strip) (signals c.args.net.now) c.args.signal

@@ -1,0 +1,12 @@
+use Rattle.std.proofs.Common.{ℕ, ◌<◌, List, length, get_or, ap, ◌∙◌, arith}
+use Rattle.network.specs.Wiring.{wires}
+use Rattle.network.proofs.Pins.{length-feeders, feeder_at}
+use Rattle.network.proofs.wires.Wires.feeders.Goals as goal
+
+pub returns-clause-within : goal.returns-clause-within
+returns-clause-within c = λ k l.
+    let xs = c.args.self.signals.now in
+    let s = c.args.signal in
+    let there : k < wires xs s = omega (arith, l, ap length c.feeders.ensures, length-feeders xs s) in
+    let at = ap (λ (vs : List ℕ). get_or vs k 0) c.feeders.ensures ∙ feeder_at xs s k there in
+    omega (arith, at, c.args.self.wired s k there)
