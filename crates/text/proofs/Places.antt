@@ -1,5 +1,5 @@
 -- The first byte that a netlist may not hold. Assumes nothing.
-use Rattle.std.proofs.Common.{◌≡◌, ℕ, suc, ◌+◌, ◌<◌, Bool, true, false, cond, not, ltb, List, [], ◌∷◌, length, take, position, Option, Some, None, Result, Ok, Err, sym, refl, ap, ◌∙◌, one-add, arith}
+use Rattle.std.proofs.Common.{◌≡◌, ℕ, suc, ◌+◌, Bool, true, false, cond, not, ltb, List, [], ◌∷◌, length, take, position, Option, Some, None, Result, Ok, Err, sym, refl, ap, ◌∙◌, one-add, arith}
 use lib.Dec.{leb-suc-suc}
 use Rattle.std.specs.List.{position_or_len}
 use Rattle.std.proofs.lemmas.Bool.{lt-ltb}
