@@ -40,6 +40,7 @@ fn after(text: &[u8], from: usize) -> &[u8]
     text.get(from..).unwrap_or_default()
 }
 
+// Three functions, one for each test: one over any test would have to say first what the test answers.
 fn line_len(text: &[u8]) -> usize
     ensures is { result ≡ prefix_len (λ b. not (newline b)) text.now }
     ensures within { result ≤ length text.now }
