@@ -30,7 +30,7 @@ pub fn row_matches(marks: &[u8], setting: u32) -> bool
 pub fn row_settings(marks: &[u8]) -> u16
     ensures { Covers marks.now result }
 {
-    // A loop: as a filter and a fold it is no plainer.
+    // A loop: a filter and a fold would need a function of their own to say what they give.
     let mut matched = 0u16;
     for s in 0..16u32 {
         if row_matches(marks, s) {

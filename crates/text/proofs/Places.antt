@@ -1,5 +1,5 @@
 -- The first byte that a netlist may not hold. Assumes nothing.
-use Rattle.std.proofs.Common.{◌≡◌, ℕ, suc, ◌+◌, ◌<◌, Bool, true, false, cond, not, ltb, List, [], ◌∷◌, length, take, position, Option, Some, None, Result, Ok, Err, sym, refl, ap, ◌∙◌, one-add, arith}
+use Rattle.std.proofs.Common.{◌≡◌, ℕ, suc, ◌+◌, Bool, true, false, cond, not, ltb, List, [], ◌∷◌, length, take, position, Option, Some, None, Result, Ok, Err, sym, refl, ap, ◌∙◌, one-add, arith}
 use lib.Dec.{leb-suc-suc}
 use Rattle.std.specs.List.{position_or_len}
 use Rattle.std.proofs.lemmas.Bool.{lt-ltb}
@@ -29,7 +29,6 @@ module _ {F : Type 0} (f : ℕ → F) where
   first_bad at [] = refl
   first_bad at (x ∷ xs) = step at (position_or_len bad xs) (length xs) (bad_places (suc at) xs) (bad x) (first_bad (suc at) xs)
 
-  pub bad_found : (at m n : ℕ) (xs ys : List ℕ) (o : Option ℕ) → o ≡ position bad (take n ys) → n ≡ m → ys ≡ xs → refused_at at o ≡ refusing f (bad_places at (take m xs))
-  bad_found at m n xs ys o e k q =
-      ap (refused_at at) (e ∙ (ap (λ (i : ℕ). position bad (take i ys)) k ∙ ap (λ (zs : List ℕ). position bad (take m zs)) q))
-      ∙ sym (first_bad at (take m xs))
+  pub bad_found : (at m n : ℕ) (xs ys zs : List ℕ) (o : Option ℕ) → o ≡ position bad zs → zs ≡ take n ys → n ≡ m → ys ≡ xs → refused_at at o ≡ refusing f (bad_places at (take m xs))
+  bad_found at m n xs ys zs o e z k q =
+      ap (refused_at at) (e ∙ ap (position bad) (z ∙ (ap (λ (i : ℕ). take i ys) k ∙ ap (take m) q))) ∙ sym (first_bad at (take m xs))

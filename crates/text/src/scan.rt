@@ -25,11 +25,7 @@ fn is_solid(b: u8) -> bool
 fn is_bad(b: u8) -> bool
     ensures { result ≡ bad b }
 {
-    match b {
-        b'\\' => true,
-        b'\t' | b'\n' | b'\r' | b' '..=b'~' => false,
-        _ => true,
-    }
+    b == b'\\' || !matches!(b, b'\t' | b'\n' | b'\r' | b' '..=b'~')
 }
 
 /// The text from `from` on, which may lie past its end.
@@ -40,6 +36,15 @@ fn after(text: &[u8], from: usize) -> &[u8]
     text.get(from..).unwrap_or_default()
 }
 
+/// The first `len` bytes of the text, or all of them.
+fn front(text: &[u8], len: usize) -> &[u8]
+    ensures is { result.now ≡ take len text.now }
+    ensures within { length result.now ≤ length text.now }
+{
+    text.get(..len).unwrap_or(text)
+}
+
+// Three functions, one for each test: one over any test would have to say first what the test answers.
 fn line_len(text: &[u8]) -> usize
     ensures is { result ≡ prefix_len (λ b. not (newline b)) text.now }
     ensures within { result ≤ length text.now }
@@ -61,12 +66,12 @@ fn word_len(text: &[u8]) -> usize
     text.iter().take_while(|b| is_solid(**b)).count()
 }
 
-/// The place of the first byte below `len` that a netlist may not hold.
-fn bad_at(text: &[u8], len: usize) -> Option<usize>
-    ensures is { result ≡ position bad (take len text.now) }
+/// The place of the first byte that a netlist may not hold.
+fn bad_at(text: &[u8]) -> Option<usize>
+    ensures is { result ≡ position bad text.now }
     ensures within { IfSome result (λ i. i < length text.now) }
 {
-    text.iter().take(len).position(|b| is_bad(*b))
+    text.iter().position(|b| is_bad(*b))
 }
 
 /// The place of the byte 10 that closes the line, or the text's length.
@@ -80,7 +85,7 @@ pub fn line_end(text: &[u8], from: usize) -> usize
 pub fn check_bytes(text: &[u8], from: usize, end: usize) -> Result<(), WordFault>
     ensures { result ≡ refusing BadByte (bad_places from (take (end - from) (drop from text.now))) }
 {
-    match bad_at(after(text, from), end.saturating_sub(from)) {
+    match bad_at(front(after(text, from), end.saturating_sub(from))) {
         Some(skipped) => Err(WordFault::BadByte(from + skipped)),
         None => Ok(()),
     }
