@@ -1,6 +1,6 @@
 -- Edge matrices over a semiring are a semiring.
 use Rattle.std.specs.Prelude.{◌≡◌, true, ◌↔◌}
-use Rattle.std.proofs.Common.{sym, ap, ◌∙◌}
+use Rattle.std.proofs.Common.{sym, ap, ◌∙◌, rules}
 use Rattle.std.proofs.lemmas.Bool.{and_parts, and_from}
 use Rattle.gauge.specs.declared.matrix.EdgeMatrix.{EdgeMatrix}
 use Rattle.gauge.specs.Matrix.{edge_ops}
@@ -36,24 +36,6 @@ module _ {S : Type 0} {r : Ops S} (l : Laws r) where
   pub plus_zero : (x : S) → r.plus x r.zero ≡ x
   plus_zero x = l.plus_comm x r.zero ∙ l.zero_plus x
 
-  from_first : (x y : S) → r.plus (r.times r.one x) (r.times r.zero y) ≡ x
-  from_first x y = simp (l.one_times, l.zero_times, plus_zero)
-
-  from_second : (x y : S) → r.plus (r.times r.zero x) (r.times r.one y) ≡ y
-  from_second x y = simp (l.one_times, l.zero_times, l.zero_plus)
-
-  to_first : (x y : S) → r.plus (r.times x r.one) (r.times y r.zero) ≡ x
-  to_first x y = simp (l.times_one, l.times_zero, plus_zero)
-
-  to_second : (x y : S) → r.plus (r.times x r.zero) (r.times y r.one) ≡ y
-  to_second x y = simp (l.times_one, l.times_zero, l.zero_plus)
-
-  from_none : (x y : S) → r.plus (r.times r.zero x) (r.times r.zero y) ≡ r.zero
-  from_none x y = simp (l.zero_times, l.zero_plus)
-
-  to_none : (x y : S) → r.plus (r.times x r.zero) (r.times y r.zero) ≡ r.zero
-  to_none x y = simp (l.times_zero, l.zero_plus)
-
   same_tells : (x y : EdgeMatrix S) → ((edge_ops r).same x y ≡ true) ↔ (x ≡ y)
   same_tells x y = (
     λ t.
@@ -61,23 +43,20 @@ module _ {S : Type 0} {r : Ops S} (l : Laws r) where
         let h' = and_parts _ _ h.1 in
         let h'' = and_parts _ _ h'.1 in
         matrix_same ((l.tells _ _).0 h.0) ((l.tells _ _).0 h'.0) ((l.tells _ _).0 h''.0) ((l.tells _ _).0 h''.1),
-    λ e.
-        and_from _ _ ((l.tells _ _).1 (ap (λ z. z.rise_rise) e))
-        (and_from _ _ ((l.tells _ _).1 (ap (λ z. z.rise_fall) e))
-        (and_from _ _ ((l.tells _ _).1 (ap (λ z. z.fall_rise) e)) ((l.tells _ _).1 (ap (λ z. z.fall_fall) e)))),
+    λ e. search (rules, and_from, λ (a b : S). (l.tells a b).1),
   )
 
   pub edge_laws : Laws (edge_ops r)
   edge_laws = record {
-    plus_assoc = λ x y z. matrix_same (l.plus_assoc _ _ _) (l.plus_assoc _ _ _) (l.plus_assoc _ _ _) (l.plus_assoc _ _ _);
-    plus_comm = λ x y. matrix_same (l.plus_comm _ _) (l.plus_comm _ _) (l.plus_comm _ _) (l.plus_comm _ _);
-    zero_plus = λ x. matrix_same (l.zero_plus _) (l.zero_plus _) (l.zero_plus _) (l.zero_plus _);
-    times_assoc = λ x y z. matrix_same (ways_assoc _ _ _ _ _ _ _ _) (ways_assoc _ _ _ _ _ _ _ _) (ways_assoc _ _ _ _ _ _ _ _) (ways_assoc _ _ _ _ _ _ _ _);
-    one_times = λ x. matrix_same (from_first _ _) (from_first _ _) (from_second _ _) (from_second _ _);
-    times_one = λ x. matrix_same (to_first _ _) (to_second _ _) (to_first _ _) (to_second _ _);
-    times_plus = λ x y z. matrix_same (ways_plus _ _ _ _ _ _) (ways_plus _ _ _ _ _ _) (ways_plus _ _ _ _ _ _) (ways_plus _ _ _ _ _ _);
-    plus_times = λ x y z. matrix_same (plus_ways _ _ _ _ _ _) (plus_ways _ _ _ _ _ _) (plus_ways _ _ _ _ _ _) (plus_ways _ _ _ _ _ _);
-    zero_times = λ x. matrix_same (from_none _ _) (from_none _ _) (from_none _ _) (from_none _ _);
-    times_zero = λ x. matrix_same (to_none _ _) (to_none _ _) (to_none _ _) (to_none _ _);
+    plus_assoc = λ x y z. simp l.plus_assoc;
+    plus_comm = λ x y. search (rules, l.plus_comm);
+    zero_plus = λ x. simp l.zero_plus;
+    times_assoc = λ x y z. simp ways_assoc;
+    one_times = λ x. simp (l.one_times, l.zero_times, l.zero_plus, plus_zero);
+    times_one = λ x. simp (l.times_one, l.times_zero, l.zero_plus, plus_zero);
+    times_plus = λ x y z. simp ways_plus;
+    plus_times = λ x y z. simp plus_ways;
+    zero_times = λ x. simp (l.zero_times, l.zero_plus);
+    times_zero = λ x. simp (l.times_zero, l.zero_plus);
     tells = same_tells;
   }

@@ -1,7 +1,8 @@
-ghost use Rattle.std.specs.Prelude.{cond, ◌≡◌};
-ghost use Rattle.weights.specs.Weights.{weight_of, start_of};
+ghost use Rattle.std.specs.Prelude.{◌≡◌};
+ghost use Rattle.weights.specs.Weights.{value_at, weight_of, start_of};
 
 use crate::times::Times;
+use gauge::edge::Edge;
 use gauge::gauges::Gauge;
 use gauge::matrix::EdgeMatrix;
 
@@ -10,14 +11,14 @@ use gauge::matrix::EdgeMatrix;
 pub fn pin_weight<G: Gauge>(raises: bool, lowers: bool, times: Times) -> EdgeMatrix<G>
     ensures { result ≡ weight_of G.Semiring.ops G.Gauge.delays raises lowers times }
 {
-    let rise = G::from_delays(times.late_rise, times.early_rise);
-    let fall = G::from_delays(times.late_fall, times.early_fall);
-    EdgeMatrix {
-        rise_rise: gated(raises, rise),
-        rise_fall: gated(lowers, fall),
-        fall_rise: gated(lowers, rise),
-        fall_fall: gated(raises, fall),
-    }
+    EdgeMatrix::from_fn(|before, after| {
+        let moves = if before == after { raises } else { lowers };
+        if moves {
+            value_at(times, after)
+        } else {
+            G::zero()
+        }
+    })
 }
 
 /// The start of a source with these start times.
@@ -27,9 +28,12 @@ pub fn source_start<G: Gauge>(times: Times) -> EdgeMatrix<G>
     pin_weight(true, false, times)
 }
 
-/// The value where the edge is passed on, else zero.
-fn gated<G: Gauge>(moves: bool, value: G) -> G
-    ensures { result ≡ cond moves value G.Semiring.ops.zero }
+/// The value of the times at an edge.
+fn value_at<G: Gauge>(times: Times, edge: Edge) -> G
+    ensures { result ≡ value_at G.Gauge.delays times edge }
 {
-    if moves { value } else { G::zero() }
+    match edge {
+        Edge::Rise => G::from_delays(times.late_rise, times.early_rise),
+        Edge::Fall => G::from_delays(times.late_fall, times.early_fall),
+    }
 }

@@ -1,4 +1,4 @@
-ghost use Rattle.std.specs.Prelude.{◌≡◌, ◌+◌, ◌*◌, ◌%◌, ◌^◌};
+ghost use Rattle.std.specs.Prelude.{◌≡◌};
 ghost use Rattle.gauge.specs.Count.{count_ops, count_delays};
 ghost use Rattle.gauge.specs.Counts.{count_laws};
 
@@ -11,18 +11,6 @@ impl Count {
         ensures { result ≡ self.paths }
     {
         self.paths
-    }
-
-    fn sum(self, other: Count) -> u32
-        ensures { result ≡ (self.paths + other.paths) % 2 ^ 32 }
-    {
-        self.paths.wrapping_add(other.paths)
-    }
-
-    fn product(self, other: Count) -> u32
-        ensures { result ≡ (self.paths * other.paths) % 2 ^ 32 }
-    {
-        self.paths.wrapping_mul(other.paths)
     }
 }
 
@@ -41,13 +29,13 @@ impl Semiring for Count {
 
     fn plus(self, other: Count) -> Count {
         Count {
-            paths: self.sum(other),
+            paths: self.paths.wrapping_add(other.paths),
         }
     }
 
     fn times(self, other: Count) -> Count {
         Count {
-            paths: self.product(other),
+            paths: self.paths.wrapping_mul(other.paths),
         }
     }
 
