@@ -4,7 +4,8 @@ ghost use Rattle.paths.specs.Sums.{worked};
 ghost use Rattle.paths.specs.Edits.{only, Settled, edit_count};
 ghost use Rattle.waiting.specs.Turns.{Empty};
 ghost use Rattle.settling.specs.Shapes.{feeds, with_turns_of};
-ghost use Rattle.settling.specs.Tables.{cells, web_on};
+ghost use Rattle.settling.specs.Tables.{cells};
+ghost use Rattle.settling.specs.Webs.{shape_of, web_of};
 
 use crate::web::Web;
 use crate::wiring::Wiring;
@@ -38,12 +39,12 @@ fn put_fed<N: Wiring, W: WaitingList>(wiring: &N, list: &mut W, source: usize)
 impl<V: Semiring, N: Wiring> Web<'_, V, N> {
     // Works a signal again, and puts the signals that it feeds if its value is another now.
     fn rework<W: WaitingList>(&self, values: &mut [V], list: &mut W, signal: usize)
-        requires room { (N.shape self.now.wiring.now).size ≤ length values.old }
-        requires limited { (N.shape self.now.wiring.now).size ≤ W.limit list.old }
-        requires here { signal < (N.shape self.now.wiring.now).size }
-        ensures written { values.new ≡ slice_set values.old signal (worked V.ops (web_on V.ops (N.shape self.now.wiring.now) self.now.starts.now self.now.weights.now) (cells V.ops values.old) signal) }
+        requires room { (shape_of self.now).size ≤ length values.old }
+        requires limited { (shape_of self.now).size ≤ W.limit list.old }
+        requires here { signal < (shape_of self.now).size }
+        ensures written { values.new ≡ slice_set values.old signal (worked V.ops (web_of V.ops self.now) (cells V.ops values.old) signal) }
         ensures limit { W.limit list.new ≡ W.limit list.old }
-        ensures put { (t : ℕ) → W.waits list.new t ≡ with_turns_of (N.shape self.now.wiring.now) (λ s. not (V.ops.same (cells V.ops values.old signal) (cells V.ops values.new signal)) && feeds (N.shape self.now.wiring.now) signal s) (W.waits list.old) t }
+        ensures put { (t : ℕ) → W.waits list.new t ≡ with_turns_of (shape_of self.now) (λ s. not (V.ops.same (cells V.ops values.old signal) (cells V.ops values.new signal)) && feeds (shape_of self.now) signal s) (W.waits list.old) t }
     {
         let old = values[signal];
         let new = self.work(values, signal);
@@ -55,12 +56,12 @@ impl<V: Semiring, N: Wiring> Web<'_, V, N> {
 
     /// Works the edited signal and every signal fed by a worked one whose value changed, by turn, each once; answers how many.
     pub fn settle<W: WaitingList>(&self, values: &mut [V], list: &mut W, edited: usize) -> usize
-        requires room { (N.shape self.now.wiring.now).size ≤ length values.old }
-        requires limited { (N.shape self.now.wiring.now).size ≤ W.limit list.old }
-        requires here { edited < (N.shape self.now.wiring.now).size }
-        ensures settled { Settled V.ops (only edited) (web_on V.ops (N.shape self.now.wiring.now) self.now.starts.now self.now.weights.now) (cells V.ops values.old) (cells V.ops values.new) }
-        ensures past { drop (N.shape self.now.wiring.now).size values.new ≡ drop (N.shape self.now.wiring.now).size values.old }
-        ensures count { result ≡ edit_count V.ops edited (web_on V.ops (N.shape self.now.wiring.now) self.now.starts.now self.now.weights.now) (cells V.ops values.old) (cells V.ops values.new) }
+        requires room { (shape_of self.now).size ≤ length values.old }
+        requires limited { (shape_of self.now).size ≤ W.limit list.old }
+        requires here { edited < (shape_of self.now).size }
+        ensures settled { Settled V.ops (only edited) (web_of V.ops self.now) (cells V.ops values.old) (cells V.ops values.new) }
+        ensures past { drop (shape_of self.now).size values.new ≡ drop (shape_of self.now).size values.old }
+        ensures count { result ≡ edit_count V.ops edited (web_of V.ops self.now) (cells V.ops values.old) (cells V.ops values.new) }
         ensures empty { Empty (W.waits list.new) }
         ensures limit { W.limit list.new ≡ W.limit list.old }
     {
