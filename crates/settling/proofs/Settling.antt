@@ -2,7 +2,7 @@
 use Rattle.std.proofs.Common.{◌≡◌, ℕ, ◌+◌, ◌<◌, ◌≤◌, Bool, true, false, cond, not, ◌&&◌, ◌||◌, eqb, ltb, leb, ◌≢◌, List, length, drop, set, sym, refl, ap, ◌∙◌, arith}
 use Rattle.std.proofs.ByRecursion.{All-weaker, All-from_get_or}
 use Rattle.std.proofs.lemmas.List.{get_or-set_same, get_or-set_other, drop-set-lt}
-use Rattle.std.proofs.lemmas.Bool.{cond-true, cond-false, eq-eqb, ne_eqb, le-ltb, lt-ltb, ltb-true, leb-true, and_left, and_parts, and_from, not_from_true}
+use Rattle.std.proofs.lemmas.Bool.{cond-true, cond-false, eq-eqb, ne_eqb, le-ltb, lt-ltb, and_left, and_from, not_from_true}
 use Rattle.std.proofs.lemmas.Bool.Decides.{nat_tests}
 use Rattle.gauge.specs.Semirings.{Ops, Laws}
 use Rattle.paths.specs.Web.{Web}
@@ -158,17 +158,17 @@ module _ {V : Type 0} (job : Job V) where
 
     -- a turn that waits is that of a signal which is due
     module _ (waits : ℕ → Bool) (values : List V) (count t : ℕ) (i : Settling waits values count) (waiting : waits t ≡ true) where
-      parts : (leb i.front t ≡ true) × ((ltb t size && due values (signal_at t)) ≡ true)
-      parts = and_parts _ _ (sym (i.waiting t) ∙ waiting)
+      here' : (t < size) × (i.front ≤ t) × (due values (signal_at t) ≡ true)
+      here' = let is = i.waiting t in (grind (arith, nat_tests), grind (arith, nat_tests), grind (arith, nat_tests))
 
       pub taken_below : t < size
-      taken_below = ltb-true t size (and_parts _ _ parts.1).0
-
-      taken_due : due values (signal_at t) ≡ true
-      taken_due = (and_parts _ _ parts.1).1
+      taken_below = here'.0
 
       taken_ahead : i.front ≤ t
-      taken_ahead = leb-true i.front t parts.0
+      taken_ahead = here'.1
+
+      taken_due : due values (signal_at t) ≡ true
+      taken_due = here'.2
 
     -- one turn of the loop: t is taken, its signal s worked, and what s feeds is put if its cell changed
     pub turned : (waits left waits' : ℕ → Bool) (values after : List V) (count count' t s : ℕ) → Settling waits values count → size ≤ length values
