@@ -1,9 +1,9 @@
 -- Laws of `any`, `gathered` and `count_below`.
-use Rattle.std.proofs.Common.{◌≡◌, ℕ, zero, suc, ◌+◌, ◌<◌, ◌≤◌, Bool, true, false, cond, ◌&&◌, ◌||◌, ◌≢◌, List, [], ◌∷◌, map, fold, length, get_or, sym, refl, ap, ◌∙◌, ap₂, ⊎_elim, arith}
+use Rattle.std.proofs.Common.{◌≡◌, ℕ, zero, suc, ◌+◌, ◌<◌, ◌≤◌, Bool, true, false, ◌&&◌, ◌||◌, ◌≢◌, List, [], ◌∷◌, map, fold, length, get_or, sym, refl, ap, ◌∙◌, arith}
 use Rattle.std.specs.List.{AllByRecursion, list_any, range_with_len}
 use Rattle.std.proofs.lemmas.List.Folds.{fold-map}
 use Rattle.std.proofs.lemmas.List.FromFn.{fill_by_all}
-use Rattle.std.proofs.lemmas.Bool.{cases_eq, cond-true, cond-false, or_from}
+use Rattle.std.proofs.lemmas.Bool.{or_from}
 use Rattle.gauge.specs.Semirings.{Ops}
 use Rattle.paths.specs.Web.{Incoming}
 use Rattle.paths.specs.Sums.{brought, gathered}
@@ -59,24 +59,17 @@ count_le (suc n) test = let rest = count_le n test in grind arith
 
 pub count_none : (n : ℕ) (test : ℕ → Bool) → ((k : ℕ) → k < n → test k ≡ false) → count_below n test ≡ 0
 count_none zero test h = refl
-count_none (suc n) test h = ap₂ ◌+◌ (ap (λ b. cond b 1 0) (h n (omega arith))) (count_none n test (λ k l. h k (omega arith)))
+count_none (suc n) test h = let here = h n in let rest = count_none n test (λ k l. h k (omega arith)) in grind arith
 
 pub count_same : (n : ℕ) (test other : ℕ → Bool) → ((k : ℕ) → k < n → test k ≡ other k) → count_below n test ≡ count_below n other
 count_same zero test other h = refl
-count_same (suc n) test other h = ap₂ ◌+◌ (ap (λ b. cond b 1 0) (h n (omega arith))) (count_same n test other (λ k l. h k (omega arith)))
+count_same (suc n) test other h = let here = h n in let rest = count_same n test other (λ k l. h k (omega arith)) in grind arith
 
 -- a test that passes s too
 pub count_more : (n s : ℕ) (test more : ℕ → Bool) → s < n → test s ≡ false → more s ≡ true → ((k : ℕ) → k < n → k ≢ s → more k ≡ test k) → count_below n more ≡ 1 + count_below n test
 count_more zero s test more in' off on others = absurd (omega arith)
 count_more (suc n) s test more in' off on others =
-    ⊎_elim
-    (λ (same : s ≡ n).
-    let rest = count_same n more test (λ k l. others k (omega arith) (omega arith)) in
-    let a : cond {A = ℕ} (test n) 1 0 ≡ 0 = cond-false (test n) 1 0 (ap test (sym same) ∙ off) in
-    let b : cond {A = ℕ} (more n) 1 0 ≡ 1 = cond-true (more n) 1 0 (ap more (sym same) ∙ on) in
-    omega arith)
-    (λ (other : s ≢ n).
-    let rest = count_more n s test more (omega arith) off on (λ k l. others k (omega arith)) in
-    let here = ap (λ b. cond {A = ℕ} b 1 0) (others n (omega arith) (λ e. other (omega arith))) in
-    omega arith)
-    (cases_eq s n)
+    let here = others n in
+    let same = λ (e : s ≡ n). count_same n more test (λ k l. others k (omega arith) (omega arith)) in
+    let rest = λ (l : s < n). count_more n s test more l off on (λ k l. others k (omega arith)) in
+    grind arith

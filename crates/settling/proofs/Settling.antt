@@ -1,8 +1,8 @@
 -- Values that are worked in the order of the turns, up to a front.
-use Rattle.std.proofs.Common.{◌≡◌, ℕ, ◌+◌, ◌<◌, ◌≤◌, Bool, true, false, cond, not, ◌&&◌, ◌||◌, eqb, ltb, leb, ◌≢◌, List, length, drop, set, sym, refl, ap, ◌∙◌, subst, ⊎_elim, arith}
+use Rattle.std.proofs.Common.{◌≡◌, ℕ, ◌+◌, ◌<◌, ◌≤◌, Bool, true, false, cond, not, ◌&&◌, ◌||◌, eqb, ltb, leb, ◌≢◌, List, length, drop, set, sym, refl, ap, ◌∙◌, arith}
 use Rattle.std.proofs.ByRecursion.{All-weaker, All-from_get_or}
 use Rattle.std.proofs.lemmas.List.{get_or-set_same, get_or-set_other, drop-set-lt}
-use Rattle.std.proofs.lemmas.Bool.{cases_eq, cond-true, cond-false, cond_both, eq-eqb, ne_eqb, le-ltb, lt-ltb, ltb-true, leb-true, and_left, and_parts, and_from, not_from_true}
+use Rattle.std.proofs.lemmas.Bool.{cond-true, cond-false, eq-eqb, ne_eqb, le-ltb, lt-ltb, and_left, and_from, not_from_true}
 use Rattle.std.proofs.lemmas.Bool.Decides.{nat_tests}
 use Rattle.gauge.specs.Semirings.{Ops, Laws}
 use Rattle.paths.specs.Web.{Web}
@@ -105,15 +105,9 @@ module _ {V : Type 0} (job : Job V) where
 
       changes : (u : ℕ) → not (r.same (before u) (v' u)) ≡ ((differs && eqb u s) || not (r.same (before u) (v u)))
       changes u =
-          ⊎_elim
-          (λ (e : u ≡ s).
-          subst (λ u. not (r.same (before u) (v' u)) ≡ ((differs && eqb u s) || not (r.same (before u) (v u)))) (sym e)
-          (let here = eq-eqb s s refl in
           let still = (job.laws.tells (before s) (v s)).1 (sym held) in
-          let to = ap (λ x. r.same x (v' s)) held in
-          grind arith))
-          (λ (ne : u ≢ s). let apart = ne_eqb u s ne in let to = ap (r.same (before u)) (others u ne) in grind arith)
-          (cases_eq u s)
+          let other = others u in
+          grind (arith, nat_tests, held)
 
       due_more : (u : ℕ) → due after u ≡ ((differs && feeds job.shape s u) || due values u)
       unfolding fed
@@ -149,19 +143,12 @@ module _ {V : Type 0} (job : Job V) where
 
       each_more : (u : ℕ) → u < size → v' u ≡ cond (reached (t + 1) after u) (worked r web v' u) (before u)
       each_more u l =
-          ⊎_elim
-          (λ (e : u ≡ s).
-          subst (λ u. v' u ≡ cond (reached (t + 1) after u) (worked r web v' u) (before u)) (sym e)
-          (new ∙ sym (same_work s in' (omega (arith, turn_is))) ∙ sym (cond-true _ _ _ here)))
-          (λ (ne : u ≢ s).
-          let e = elsewhere u l ne in
-          let kept = others u ne ∙ was.each u l in
-          cond_both (reached (t + 1) after u) _ _ (λ x. v' u ≡ x)
-          (λ on.
-          let early : turn u < t + 1 = ltb-true _ _ (and_parts _ _ on).0 in
-          kept ∙ cond-true _ _ _ (sym e ∙ on) ∙ sym (same_work u l (omega arith)))
-          (λ off. kept ∙ cond-false _ _ _ (sym e ∙ off)))
-          (cases_eq u s)
+          let e = elsewhere u l in
+          let other = others u in
+          let same = same_work u l in
+          let was' = was.each u l in
+          let early = same_work s in' (omega (arith, turn_is)) in
+          grind (arith, nat_tests, new, here)
 
       pub settled_more : SettledTo (t + 1) after
       settled_more = record { each = each_more; past = ap (drop size) written ∙ drop-set-lt size values s _ in' ∙ was.past }
@@ -171,17 +158,17 @@ module _ {V : Type 0} (job : Job V) where
 
     -- a turn that waits is that of a signal which is due
     module _ (waits : ℕ → Bool) (values : List V) (count t : ℕ) (i : Settling waits values count) (waiting : waits t ≡ true) where
-      parts : (leb i.front t ≡ true) × ((ltb t size && due values (signal_at t)) ≡ true)
-      parts = and_parts _ _ (sym (i.waiting t) ∙ waiting)
+      here' : (t < size) × (i.front ≤ t) × (due values (signal_at t) ≡ true)
+      here' = let is = i.waiting t in (grind (arith, nat_tests), grind (arith, nat_tests), grind (arith, nat_tests))
 
       pub taken_below : t < size
-      taken_below = ltb-true t size (and_parts _ _ parts.1).0
-
-      taken_due : due values (signal_at t) ≡ true
-      taken_due = (and_parts _ _ parts.1).1
+      taken_below = here'.0
 
       taken_ahead : i.front ≤ t
-      taken_ahead = leb-true i.front t parts.0
+      taken_ahead = here'.1
+
+      taken_due : due values (signal_at t) ≡ true
+      taken_due = here'.2
 
     -- one turn of the loop: t is taken, its signal s worked, and what s feeds is put if its cell changed
     pub turned : (waits left waits' : ℕ → Bool) (values after : List V) (count count' t s : ℕ) → Settling waits values count → size ≤ length values

@@ -2,7 +2,7 @@
 #![tactic(auto)]
 
 pub mod laws;
-pub mod settle;
+mod settle;
 pub mod tap;
 pub mod web;
 pub mod wiring;

@@ -7,7 +7,7 @@ use Rattle.opening.proofs.open.open.Goals as goal
 pub invariant_of-web : goal.invariant_of-web
 invariant_of-web g c =
     let long = roomy (view_of c.args.board) c.limit.result c.in_ok-check_room.ensures in
-    record { fit = fits c.args.board.network.now c.fill.new.starts c.fill.new.weights (omega (arith, c.fill.auto.starts, long.starts)) (omega (arith, c.fill.auto.weights, long.weights)) }
+    record { fit = fits c.args.board.network.now _ _ (omega (arith, long.starts)) (omega (arith, long.weights)) }
 
 pub work_all-count-requires : goal.work_all-count-requires
 work_all-count-requires g c = (roomy (view_of c.args.board) c.limit.result c.in_ok-check_room.ensures).values

@@ -6,14 +6,10 @@ pub loop-turn-init : goal.loop-turn-init
 loop-turn-init g c =
     (begun _ c.args.edited _ (λ t. let put = c.put_signal.ensures.put t in let none = c.clear.ensures.empty t in grind arith), refl)
 
-pub rework-requires : goal.rework-requires
-rework-requires g c =
+pub rework-requires-clause-here : goal.rework-requires-clause-here
+rework-requires-clause-here g c =
     let below = taken_below _ _ _ _ _ c.in-Some.turn c.loop-turn.invariant.0 c.in-Some.ensures.least.0 in
-    record {
-      room = omega (arith, c.loop-turn.auto.values, c.requires.room);
-      limited = omega (arith, c.requires.limited, c.in-Some.ensures.limit, c.loop-turn.invariant.1, c.put_signal.ensures.limit, c.clear.ensures.limit);
-      here = omega (arith, c.signal_at-signal.ensures, (g.N.Wiring.sound c.args.self.now.wiring.now).signal_below c.in-Some.turn below);
-    }
+    omega (arith, c.signal_at-signal.ensures, (g.N.Wiring.sound c.args.self.now.wiring.now).signal_below c.in-Some.turn below)
 
 pub loop-turn-preserved : goal.loop-turn-preserved
 loop-turn-preserved g c =
@@ -29,15 +25,8 @@ loop-turn-preserved g c =
 pub loop-turn-smaller : goal.loop-turn-smaller
 loop-turn-smaller g c = omega (arith, (loop-turn-preserved g c).0.few)
 
-pub returns : goal.returns
-returns g c =
-    let i = c.loop-turn.invariant.0 in
-    let none = c.in_default.ensures in
-    let list = g.W.WaitingList in
-    record {
-      settled = ended _ c.args.edited (list.waits c.loop-turn.list) c.loop-turn.values c.loop-turn.count i none.least;
-      past = i.settled.past;
-      count = count_ended _ c.args.edited (list.waits c.loop-turn.list) c.loop-turn.values c.loop-turn.count i none.least c.requires.here;
-      empty = λ t. let left = none.removed t in let idle = none.least t in cc;
-      limit = let limit = none.limit in let was = c.loop-turn.invariant.1 in cc;
-    }
+pub returns-clause-settled : goal.returns-clause-settled
+returns-clause-settled g c = ended _ c.args.edited (g.W.WaitingList.waits c.loop-turn.list) c.loop-turn.values c.loop-turn.count c.loop-turn.invariant.0 c.in_default.ensures.least
+
+pub returns-clause-count : goal.returns-clause-count
+returns-clause-count g c = count_ended _ c.args.edited (g.W.WaitingList.waits c.loop-turn.list) c.loop-turn.values c.loop-turn.count c.loop-turn.invariant.0 c.in_default.ensures.least c.requires.here
