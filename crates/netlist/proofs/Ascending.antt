@@ -14,10 +14,10 @@ use Rattle.text.specs.Words.{Lexeme, keyword, unknown, plain, lexeme_of, one_of,
 use Rattle.text.specs.declared.word.Command.{Command}
 use Rattle.text.specs.declared.word.Command.TheVariants.{Model, Inputs, Outputs, Names, Latch, End}
 use Rattle.netlist.specs.Outcomes.{first_of}
-use Rattle.netlist.specs.Faults.{State, fault, only_if, outside, many_pins, too_many, wrong_row, has_driver_lem, driven_twice, rule_faults, word_faults, faults_of, number_of_fault, precedes, least, least_of}
+use Rattle.netlist.specs.Faults.{State, fault, only_if, outside, many_pins, too_many, wrong_row, has_driver, driven_twice, rule_faults, word_faults, faults_of, number_of_fault, precedes, least, least_of}
 use Rattle.netlist.specs.Signals as signals
-use Rattle.netlist.specs.Signals.{Signal, mention, mention_all_lem, fresh}
-use Rattle.netlist.specs.Statements.{Statement, latch, wrong, last_of, front_of, model_of, gate_of, latch_rest_lem, latch_of, end_of, command_of, statement_of, mentions_of, drives_of, names_of}
+use Rattle.netlist.specs.Signals.{Signal, mention, mention_all, fresh}
+use Rattle.netlist.specs.Statements.{Statement, latch, wrong, last_of, front_of, model_of, gate_of, latch_rest, latch_of, end_of, command_of, statement_of, mentions_of, drives_of, names_of}
 use Rattle.netlist.proofs.Mentions.{mention_old, mention_new, Place}
 use Rattle.netlist.proofs.Shapes.{front_last}
 
@@ -60,13 +60,13 @@ long_asc lo (w ∷ ws) x = long_cond (is_long w) lo w (filter is_long ws) x.0 (l
 
 twice_asc : (ss : List Signal) (done : List (List ℕ)) (lo : ℕ) (ws : List Piece) → Asc lo (places_of ws) → Asc lo (driven_twice ss done ws)
 twice_asc ss done lo [] x = tt
-twice_asc ss done lo (w ∷ ws) x = asc_cond (has_driver_lem ss w.bytes || one_of done w.bytes) lo w.place (driven_twice ss (done ++ w.bytes ∷ []) ws) x.0 (twice_asc ss (done ++ w.bytes ∷ []) (suc w.place) ws x.1)
+twice_asc ss done lo (w ∷ ws) x = asc_cond (has_driver ss w.bytes || one_of done w.bytes) lo w.place (driven_twice ss (done ++ w.bytes ∷ []) ws) x.0 (twice_asc ss (done ++ w.bytes ∷ []) (suc w.place) ws x.1)
 
 pub mention_ways : (ss : List Signal) (w : Piece) → (mention ss w ≡ ss) ⊎ (mention ss w ≡ ss ++ fresh w ∷ [])
 mention_ways ss w = ⊎_elim (λ l. inl (sym (mention_old ss w l))) (λ l. inr (mention_new ss w l)) (cases_lt (signals.number_of ss w.bytes) (length ss))
 
 abbrev New : List Signal → List Piece → ℕ → Type 0
-New ss ws lo = (new : List Signal) × ((mention_all_lem ss ws ≡ ss ++ new) × Asc lo (map Place new))
+New ss ws lo = (new : List Signal) × ((mention_all ss ws ≡ ss ++ new) × Asc lo (map Place new))
 
 new_asc : (ws : List Piece) (ss : List Signal) (lo : ℕ) → Asc lo (places_of ws) → New ss ws lo
 new_asc [] ss lo x = ([], (sym (append-nil ss), tt))
@@ -84,10 +84,10 @@ drop_both n xs ys h =
     ap (λ (k : ℕ). drop k (xs ++ ys)) q
     ∙ (sym (drop-drop (n - length xs) (length xs) (xs ++ ys)) ∙ ap (drop (n - length xs)) (drop_at xs ys (length xs) refl))
 
-many_asc : (ss : List Signal) (lo : ℕ) (ws : List Piece) → length ss ≤ max_signals → Asc lo (places_of ws) → Asc lo (too_many (mention_all_lem ss ws))
+many_asc : (ss : List Signal) (lo : ℕ) (ws : List Piece) → length ss ≤ max_signals → Asc lo (places_of ws) → Asc lo (too_many (mention_all ss ws))
 many_asc ss lo ws h x =
     let r = new_asc ws ss lo x in
-    let e : too_many (mention_all_lem ss ws) ≡ drop (max_signals - length ss) (map Place r.0) = ap too_many r.1.0 ∙ (ap (map Place) (drop_both max_signals ss r.0 h) ∙ sym (drop-map Place (max_signals - length ss) r.0)) in
+    let e : too_many (mention_all ss ws) ≡ drop (max_signals - length ss) (map Place r.0) = ap too_many r.1.0 ∙ (ap (map Place) (drop_both max_signals ss r.0 h) ∙ sym (drop-map Place (max_signals - length ss) r.0)) in
     subst (Asc lo) (sym e) (asc_drop (max_signals - length ss) lo (map Place r.0) r.1.1)
 
 -- ---- words, and the names among them
@@ -126,7 +126,7 @@ latch_asc lo (d ∷ q ∷ ws) x =
     let a = x.0 in
     let b = x.1.0 in
     let out : lo ≤ q.place = omega (arith, a, b) in
-    cond_both (latch_rest_lem ws) (latch d q ws) wrong (Rising lo) (λ _. (two, (two, (out, tt)))) (λ _. (tt, (tt, tt)))
+    cond_both (latch_rest ws) (latch d q ws) wrong (Rising lo) (λ _. (two, (two, (out, tt)))) (λ _. (tt, (tt, tt)))
 
 model_asc : (lo : ℕ) (ws : List Piece) → Asc lo (places_of ws) → Rising lo (model_of ws)
 model_asc lo [] x = (tt, (tt, tt))
@@ -247,11 +247,11 @@ module _ (p3 p4 p5 p6 p7 p8 : List ℕ) where
       (group BadRow 0 p7 F8 a7 (above8 7 (omega arith)) (last_group SecondDriver lo p8 a8)))))
 
 rule_above : (s : State) (at : ℕ) (st : Statement) → AllByRecursion (Above 2) (rule_faults s at st)
-rule_above s at st = above3 (only_if (outside s.stage st) at) (long_names (names_of st)) (only_if (many_pins st) at) (too_many (mention_all_lem s.signals (mentions_of st))) (only_if (wrong_row s st) at) (driven_twice s.signals [] (drives_of st)) 2 (omega arith)
+rule_above s at st = above3 (only_if (outside s.stage st) at) (long_names (names_of st)) (only_if (many_pins st) at) (too_many (mention_all s.signals (mentions_of st))) (only_if (wrong_row s st) at) (driven_twice s.signals [] (drives_of st)) 2 (omega arith)
 
 rule_least : (s : State) (at : ℕ) (st : Statement) (lo : ℕ) → length s.signals ≤ max_signals → Rising lo st → FirstLeast (rule_faults s at st)
 rule_least s at st lo h x =
-    six (only_if (outside s.stage st) at) (long_names (names_of st)) (only_if (many_pins st) at) (too_many (mention_all_lem s.signals (mentions_of st))) (only_if (wrong_row s st) at) (driven_twice s.signals [] (drives_of st)) lo
+    six (only_if (outside s.stage st) at) (long_names (names_of st)) (only_if (many_pins st) at) (too_many (mention_all s.signals (mentions_of st))) (only_if (wrong_row s st) at) (driven_twice s.signals [] (drives_of st)) lo
     (only_asc (outside s.stage st) at) (long_asc lo (names_of st) x.0) (only_asc (many_pins st) at)
     (many_asc s.signals lo (mentions_of st) h x.1.0) (only_asc (wrong_row s st) at) (twice_asc s.signals [] lo (drives_of st) x.1.1)
 

@@ -8,15 +8,15 @@ use Rattle.text.specs.Text.{Piece, words, lines}
 use Rattle.text.specs.Words.{any_of, lexeme_of}
 use Rattle.netlist.specs.declared.stage.Stage.{Stage}
 use Rattle.netlist.specs.declared.stage.Stage.TheVariants.{Before, Body, Rows, After}
-use Rattle.netlist.specs.Effects.{state, rowed, add_row_lem, row_at, row_done, effect, words_effect}
+use Rattle.netlist.specs.Effects.{state, rowed, add_row, row_at, row_done, effect, words_effect}
 use Rattle.netlist.specs.Faults.{State}
 use Rattle.netlist.specs.Laws.{outputs_of, data_of, part_of, words_in, named, Accepted}
 use Rattle.netlist.specs.Reading.{step, ongoing}
-use Rattle.netlist.specs.Signals.{Signal, Driver, undriven, input, latched, gates, is_undriven, number_of, mention_all_lem, changed, on_named, on_each, no_signal, driven, as_output, as_captured, numbers}
+use Rattle.netlist.specs.Signals.{Signal, Driver, undriven, input, latched, gates, is_undriven, number_of, Known, Mentioned, mention_all, changed, on_named, on_each, no_signal, driven, as_output, as_captured, numbers}
 use Rattle.netlist.specs.Statements.{Statement, model, inputs, outputs, gate, latch, row, ending, wrong, statement_of, mentions_of, drives_of}
 use Rattle.netlist.proofs.Accepting.{step_ongoing, all_lines, accepted}
 use Rattle.netlist.proofs.Looking.{look, mentions_look, look_kept, each_kept, look_set, number_kept}
-use Rattle.netlist.proofs.Within.{Known, Mentioned, mentioned_all, mentioned_parts}
+use Rattle.netlist.proofs.Within.{mentioned_all, mentioned_parts}
 
 -- ---- tests
 
@@ -78,13 +78,13 @@ rowed_driven input r = refl
 rowed_driven (latched d ws) r = refl
 rowed_driven (gates ps c) r = refl
 
-row_kept : (f : Signal → Bool) → ((r : Row) (s : Signal) → f (add_row_lem r s) ≡ f s) → (g : Stage) (ss : List Signal) (r : Row) (n : List ℕ) → look f (row_at g ss r) n ≡ look f ss n
+row_kept : (f : Signal → Bool) → ((r : Row) (s : Signal) → f (add_row r s) ≡ f s) → (g : Stage) (ss : List Signal) (r : Row) (n : List ℕ) → look f (row_at g ss r) n ≡ look f ss n
 row_kept f h Before ss r n = refl
 row_kept f h Body ss r n = refl
-row_kept f h (Rows k) ss r n = look_kept f (add_row_lem r) (λ z. refl) (h r) ss k n
+row_kept f h (Rows k) ss r n = look_kept f (add_row r) (λ z. refl) (h r) ss k n
 row_kept f h After ss r n = refl
 
-rows_kept : (f : Signal → Bool) → ((r : Row) (s : Signal) → f (add_row_lem r s) ≡ f s) → (g : Stage) (ss : List Signal) (r : Option Row) (n : List ℕ) → look f (row_done g ss r) n ≡ look f ss n
+rows_kept : (f : Signal → Bool) → ((r : Row) (s : Signal) → f (add_row r s) ≡ f s) → (g : Stage) (ss : List Signal) (r : Option Row) (n : List ℕ) → look f (row_done g ss r) n ≡ look f ss n
 rows_kept f h g ss None n = refl
 rows_kept f h g ss (Some r) n = row_kept f h g ss r n
 
@@ -95,7 +95,7 @@ Turns f part = (s : State) (st : Statement) (n : List ℕ) → look f (effect s 
 
 module _ (s : State) (n : List ℕ) where
   abbrev Now : Statement → List Signal
-  Now st = mention_all_lem s.signals (mentions_of st)
+  Now st = mention_all s.signals (mentions_of st)
 
   known : (st : Statement) → Mentioned (Now st) (mentions_of st)
   known st = mentioned_all (mentions_of st) s.signals

@@ -1,12 +1,22 @@
 -- Cycles among the signals that a text describes are those of the network's signals.
-use Rattle.std.proofs.Common.{◌≡◌, ℕ, zero, suc, ◌<◌, List, [], ◌∷◌, length, get_or, sym, refl, ap, ◌∙◌, subst, arith, length-take-le, get_or-take}
+use Rattle.std.proofs.Common.{◌≡◌, ℕ, zero, suc, ◌<◌, List, [], ◌∷◌, length, get_or, IsErrAnd, MatchResult, Ok, Err, Result, sym, refl, ap, ◌∙◌, subst, arith, length-take-le, get_or-take}
+use Rattle.fault.specs.declared.cause.Cause.TheVariants.{Cycle}
+use Rattle.network.specs.Build.{Built}
 use Rattle.network.specs.Reach as net
 use Rattle.network.specs.Reach.{Reaches, wire, further}
 use Rattle.network.specs.Wiring.{absent, driver, pin_count_lem, signal_at_pin}
+use Rattle.network.specs.declared.cyclic.Cyclic.{Cyclic}
+use Rattle.network.specs.declared.network.Network.{Network}
+use Rattle.network.specs.declared.span.Span.{Span}
 use Rattle.network.specs.declared.signal.Driver.{Driver}
 use Rattle.network.specs.declared.signal.Driver.TheVariants.{Undriven, Input, Latched, Gated}
 use Rattle.network.specs.declared.signal.Signal.{Signal}
-use Rattle.netlist.specs.Cycles.{pins_of, pins_at, Wire, LowestOnCycle, Acyclic}
+use Rattle.netlist.specs.declared.netlist_fault.NetlistFault.{NetlistFault}
+use Rattle.netlist.specs.declared.netlist_fault.NetlistFault.TheVariants.{OfNetlist}
+use Rattle.netlist.specs.Cycles.{pins_of, pins_at, Wire, LowestOnCycle, Acyclic, Closes, network_on}
+use Rattle.netlist.specs.Faults.{fault}
+use Rattle.netlist.specs.Outcomes.{refusal_of}
+use Rattle.netlist.specs.Reading.{netlist}
 use Rattle.netlist.specs.Signals.{no_signal}
 use Rattle.netlist.specs.Views.{driver_on, signals_on}
 
@@ -58,3 +68,14 @@ module _ (text : List ℕ) where
 
     pub lowest_on : (s : ℕ) → net.LowestOnCycle xs s → LowestOnCycle (signals_on text xs) s
     lowest_on s l = record { cyclic = reached of_net l.cyclic; lowest = λ c h o. l.lowest c h (reached to_net o) }
+
+-- a network stands as it is, and a cycle is refused where its lowest signal is named; P says what the refusals are
+pub joined : (text : List ℕ) (xs : List Signal) (v : Result Network Cyclic) (r : Result Network NetlistFault) (P : Cyclic → NetlistFault → Type 0) → ((y : Cyclic) (f : NetlistFault) → P y f → f ≡ OfNetlist (fault Cycle y.name.at)) → Built xs v → MatchResult v (λ x. r ≡ Ok x) (λ y. IsErrAnd r (P y)) → Closes (netlist (signals_on text xs)) (network_on text r)
+joined text xs (Ok net) r P gives b e =
+    subst (λ (q : Result Network NetlistFault). Closes (netlist (signals_on text xs)) (network_on text q)) (sym e) (ap (signals_on text) b.1, acyclic_on text xs b.0)
+joined text xs (Err y) (Ok net) P gives b e = absurd e
+joined text xs (Err y) (Err f) P gives b e = (
+  y.lowest,
+  lowest_on text xs y.lowest b.0,
+  ap refusal_of (gives y f e) ∙ ap (fault Cycle) (ap (λ (n : Span). n.at) b.1 ∙ sym (place_on text xs y.lowest)),
+)

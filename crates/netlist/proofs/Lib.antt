@@ -2,6 +2,7 @@ pub mod Firsts
 pub mod Passes
 pub mod Mentions
 pub mod Looking
+pub mod Numbering
 pub mod Rowwise
 pub mod Shapes
 pub mod Judging
@@ -10,6 +11,7 @@ pub mod Elements
 pub mod Ascending
 pub mod Stepwise
 pub mod Within
+pub mod Admitted
 pub mod Accepting
 pub mod Endings
 pub mod Driving

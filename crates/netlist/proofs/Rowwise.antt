@@ -7,7 +7,7 @@ use Rattle.network.specs.declared.signal.Signal as code
 use Rattle.rows.specs.Rows.{Row, Cover, row_fits_lem}
 use Rattle.text.specs.Text.{Piece}
 use Rattle.netlist.specs.Signals.{Signal, changed, no_signal}
-use Rattle.netlist.specs.Faults.{row_joins_lem}
+use Rattle.netlist.specs.Faults.{row_joins}
 use Rattle.netlist.specs.Statements.{row_of}
 use Rattle.netlist.specs.Views.{piece_on, pieces, signal_on, signals_on}
 
@@ -27,11 +27,11 @@ module _ (t : List ℕ) where
   row_none m (a ∷ b ∷ xs) h = refl
 
   module _ (cs : List code.Signal) (g : ℕ) where
-    pub joins_past : (r : Row) → length cs ≤ g → false ≡ row_joins_lem (get_or (signals_on t cs) g no_signal).driver r
-    joins_past r h = sym (ap (λ (s : Signal). row_joins_lem s.driver r) (get_or_past (signals_on t cs) g no_signal (omega (arith, length-map cs (signal_on t)))))
+    pub joins_past : (r : Row) → length cs ≤ g → false ≡ row_joins (get_or (signals_on t cs) g no_signal).driver r
+    joins_past r h = sym (ap (λ (s : Signal). row_joins s.driver r) (get_or_past (signals_on t cs) g no_signal (omega (arith, length-map cs (signal_on t)))))
 
-    pub joins_here : (r : Row) (x : code.Signal) → g < length cs → x ≡ get_or cs g x → row_joins_lem (signal_on t x).driver r ≡ row_joins_lem (get_or (signals_on t cs) g no_signal).driver r
-    joins_here r x h e = ap (λ (s : Signal). row_joins_lem s.driver r) (ap (signal_on t) e ∙ sym (get_or-map (signal_on t) cs g x no_signal h))
+    pub joins_here : (r : Row) (x : code.Signal) → g < length cs → x ≡ get_or cs g x → row_joins (signal_on t x).driver r ≡ row_joins (get_or (signals_on t cs) g no_signal).driver r
+    joins_here r x h e = ap (λ (s : Signal). row_joins s.driver r) (ap (signal_on t) e ∙ sym (get_or-map (signal_on t) cs g x no_signal h))
 
     pub row_here : (f : Signal → Signal) (x d : code.Signal) → g < length cs → signal_on t x ≡ f (signal_on t (get_or cs g d)) → signals_on t (set cs g x) ≡ changed f (signals_on t cs) g
     row_here f x d h q = map-set (signal_on t) cs g x ∙ ap (set (signals_on t cs) g) (q ∙ ap f (sym (get_or-map (signal_on t) cs g d no_signal h)))

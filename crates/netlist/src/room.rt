@@ -1,23 +1,18 @@
 ghost use Rattle.std.specs.Prelude.{◌≤◌, vec_capacity};
 ghost use Rattle.network.specs.Limit.{max_signals};
-ghost use Rattle.netlist.specs.Limit.{max_bytes};
 
-use crate::limit::MAX_BYTES;
+use crate::line_words::LineWords;
+use crate::signals::Signals;
 use network::limit::MAX_SIGNALS;
-use network::signal::Signal;
-use network::span::Span;
 use std::alloc::{AllocError, Global};
 
 /// The memory of one network and of its reading.
 #[derive(Drop)]
 pub struct Room {
-    pub(crate) signals: Vec<Signal>,
-    /// the words of a line
-    pub(crate) words: Vec<Span>,
+    pub(crate) signals: Signals,
+    pub(crate) words: LineWords,
     pub(crate) turn_of: Vec<u16>,
     pub(crate) order: Vec<u16>,
-    ghost named: { max_signals ≤ vec_capacity signals },
-    ghost line: { max_bytes ≤ vec_capacity words },
     ghost turns: { max_signals ≤ vec_capacity turn_of },
     ghost turned: { max_signals ≤ vec_capacity order },
 }
@@ -25,8 +20,8 @@ pub struct Room {
 impl Room {
     /// Reserves all memory at once: nothing else can want for it.
     pub fn new(heap: Global) -> Result<Room, AllocError> {
-        let signals = Vec::with_capacity(heap, MAX_SIGNALS)?;
-        let words = Vec::with_capacity(heap, MAX_BYTES)?;
+        let signals = Signals::new(heap)?;
+        let words = LineWords::new(heap)?;
         let turn_of = Vec::with_capacity(heap, MAX_SIGNALS)?;
         let order = Vec::with_capacity(heap, MAX_SIGNALS)?;
         Ok(Room {
