@@ -76,25 +76,12 @@ wrong_refused s at st e = ap (first_judged s at) e
 -- ---- .model
 
 module _ (t : List ℕ) (g : Stage) (ss : List Signal) (at : ℕ) where
-  pub model_other : (xs : List Span) → (length xs ≡ 1 → ⊥) → wrong ≡ model_of (pieces t xs)
-  model_other [] h = refl
-  model_other (a ∷ []) h = absurd (h refl)
-  model_other (a ∷ b ∷ xs) h = refl
-
   pub model_is : (xs : List Span) (d : Span) → length xs ≡ 1 → model (piece_on t (get_or xs 0 d)) ≡ model_of (pieces t xs)
   model_is xs d h = ap (λ (ys : List Span). model_of (pieces t ys)) (list_one xs d h)
 
   module _ (n : Piece) where
     start_first : (b : Bool) → b ≡ at_start g → (fs : List Refusal) → first_of (map (fault cause.BadLine) (only_if (not b || false) at) ++ fs) ≡ first_of (map (fault cause.BadLine) (only_if (not (at_start g) || false) at) ++ fs)
     start_first b e fs = ap (λ (x : Bool). first_of (map (fault cause.BadLine) (only_if (not x || false) at) ++ fs)) e
-
-    pub model_late : false ≡ at_start g → refused (fault cause.BadLine at) ≡ first_judged (state g ss) at (model n)
-    model_late e = is_refused_lem (state g ss) at (model n) (start_first false e _)
-
-    pub model_long : (w : Piece) (f : WordFault) → true ≡ at_start g → w ≡ n → Err f ≡ refusing LongName (long_names (w ∷ [])) → refused (words.refusal_of f) ≡ first_judged (state g ss) at (model n)
-    model_long w f e q h =
-        is_refused_lem (state g ss) at (model n)
-        (first_stops (Long (long_names (n ∷ []))) _ (long_found (long_names (n ∷ [])) f (h ∙ ap (λ (x : Piece). refusing LongName (long_names (x ∷ []))) q)) ∙ start_first true e _)
 
     pub model_done : (w : Piece) {x : Unit {0}} → length ss ≤ max_signals → true ≡ at_start g → w ≡ n → Ok x ≡ refusing LongName (long_names (w ∷ [])) → ongoing (state Body ss) ≡ first_judged (state g ss) at (model n)
     model_done w l e q h =
@@ -105,18 +92,11 @@ module _ (t : List ℕ) (g : Stage) (ss : List Signal) (at : ℕ) where
 -- ---- .end
 
 module _ (t : List ℕ) (g : Stage) (ss : List Signal) (at : ℕ) where
-  pub end_other : (xs : List Span) → (length xs ≡ 0 → ⊥) → wrong ≡ end_of (pieces t xs)
-  end_other [] h = absurd (h refl)
-  end_other (a ∷ xs) h = refl
-
   pub end_is : (xs : List Span) → length xs ≡ 0 → ending ≡ end_of (pieces t xs)
   end_is xs h = ap (λ (ys : List Span). end_of (pieces t ys)) (list_none xs h)
 
   body_first : (b : Bool) → b ≡ in_body g → (fs : List Refusal) → first_of (map (fault cause.BadLine) (only_if (not b || false) at) ++ fs) ≡ first_of (map (fault cause.BadLine) (only_if (not (in_body g) || false) at) ++ fs)
   body_first b e fs = ap (λ (x : Bool). first_of (map (fault cause.BadLine) (only_if (not x || false) at) ++ fs)) e
-
-  pub end_late : false ≡ in_body g → refused (fault cause.BadLine at) ≡ first_judged (state g ss) at ending
-  end_late e = is_refused_lem (state g ss) at ending (body_first false e _)
 
   pub end_done : length ss ≤ max_signals → true ≡ in_body g → ongoing (state After ss) ≡ first_judged (state g ss) at ending
   end_done l e = is_done (state g ss) at ending (state After ss) (few_first ss [] l ∙ body_first true e _) refl

@@ -46,9 +46,6 @@ module _ (t : List ℕ) (cs : List code.Signal) (w : Span) where
         map-set (signal_on t) cs k x
         ∙ (ap (set (signals_on t cs) k) (q ∙ ap f (sym (get_or-map (signal_on t) cs k d no_signal (omega (arith, h.0, h.1, length-map cs (signal_on t)))))) ∙ ap (changed f (signals_on t cs)) h.1)
 
-pub change_past : (f : Signal → Signal) (ss : List Signal) (w : Piece) → length ss ≤ number_of ss w.bytes → ss ≡ on_named f ss w
-change_past f ss w h = sym (set_past ss (number_of ss w.bytes) _ h)
-
 -- ---- one too many
 
 mention_grows : (ss : List Signal) (w : Piece) → (more : List Signal) × (mention ss w ≡ ss ++ more)

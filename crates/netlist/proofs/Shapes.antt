@@ -19,12 +19,6 @@ list_one [] d h = absurd (omega arith)
 list_one (a ∷ []) d h = refl
 list_one (a ∷ b ∷ xs) d h = absurd (omega arith)
 
-pub list_two : (xs : List Span) (d : Span) → length xs ≡ 2 → get_or xs 0 d ∷ get_or xs 1 d ∷ [] ≡ xs
-list_two [] d h = absurd (omega arith)
-list_two (a ∷ []) d h = absurd (omega arith)
-list_two (a ∷ b ∷ []) d h = refl
-list_two (a ∷ b ∷ c ∷ xs) d h = absurd (omega arith)
-
 pub list_three : (xs : List Span) (d : Span) → length xs ≡ 3 → get_or xs 0 d ∷ get_or xs 1 d ∷ get_or xs 2 d ∷ [] ≡ xs
 list_three [] d h = absurd (omega arith)
 list_three (a ∷ []) d h = absurd (omega arith)
@@ -34,23 +28,10 @@ list_three (a ∷ b ∷ c ∷ e ∷ xs) d h = absurd (omega arith)
 
 -- ---- the words after a latch's output
 
-pub rest_more : (t : List ℕ) (xs : List Span) → 3 < length xs → false ≡ latch_rest (pieces t xs)
-rest_more t [] h = absurd (omega arith)
-rest_more t (a ∷ []) h = absurd (omega arith)
-rest_more t (a ∷ b ∷ []) h = absurd (omega arith)
-rest_more t (a ∷ b ∷ c ∷ []) h = absurd (omega arith)
-rest_more t (a ∷ b ∷ c ∷ e ∷ xs) h = refl
-
 -- by the first word's test a and the last word's test b
 module _ (t : List ℕ) (xs : List Span) (d : Span) where
   pub rest_none : length xs ≡ 0 → true ≡ latch_rest (pieces t xs)
   rest_none h = ap (λ (ys : List Span). latch_rest (pieces t ys)) (list_none xs h)
-
-  pub rest_one : length xs ≡ 1 → (w : Piece) (b : Bool) → w ≡ piece_on t (get_or xs 0 d) → b ≡ one_of initial_values w.bytes → b ≡ latch_rest (pieces t xs)
-  rest_one h w b e q = q ∙ (ap (λ (p : Piece). one_of initial_values p.bytes) e ∙ ap (λ (ys : List Span). latch_rest (pieces t ys)) (list_one xs d h))
-
-  pub rest_two : length xs ≡ 2 → (w : Piece) (a : Bool) → w ≡ piece_on t (get_or xs 0 d) → a ≡ one_of latch_types w.bytes → a ≡ latch_rest (pieces t xs)
-  rest_two h w a e q = q ∙ (ap (λ (p : Piece). one_of latch_types p.bytes) e ∙ ap (λ (ys : List Span). latch_rest (pieces t ys)) (list_two xs d h))
 
   pub rest_three : length xs ≡ 3 → (w v : Piece) (a b : Bool) → w ≡ piece_on t (get_or xs 0 d) → v ≡ piece_on t (get_or xs 2 d) → a ≡ one_of latch_types w.bytes → b ≡ one_of initial_values v.bytes → (a && b) ≡ latch_rest (pieces t xs)
   rest_three h w v a b e f p q =
@@ -103,10 +84,6 @@ module _ (t : List ℕ) where
   last_is : (a : Span) (xs : List Span) (d : Span) → last_of (piece_on t a) (pieces t xs) ≡ piece_on t (get_or (a ∷ xs) (length xs) d)
   last_is a [] d = refl
   last_is a (b ∷ xs) d = last_is b xs d
-
-  pub gate_none : (xs : List Span) → length xs ≡ 0 → wrong ≡ gate_of (pieces t xs)
-  gate_none [] h = refl
-  gate_none (a ∷ xs) h = absurd (omega arith)
 
   pub gate_is : (xs ps : List Span) (d : Span) → 0 < length xs → ps ≡ take (length xs - 1) xs → gate (pieces t ps) (piece_on t (get_or xs (length xs - 1) d)) ≡ gate_of (pieces t xs)
   gate_is [] ps d h e = absurd (omega arith)

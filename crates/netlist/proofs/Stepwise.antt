@@ -43,10 +43,6 @@ lexeme_place : (w : Piece) → place_in (lexeme_of w) ≡ w.place
 lexeme_place w = cond_both (dotted w.bytes) (known (command_named_lem w.bytes) w) (plain w) (λ (l : Lexeme). place_in l ≡ w.place) (λ _. known_place (command_named_lem w.bytes) w) (λ _. refl)
 
 module _ (t : List ℕ) (s : State) where
-  pub words_none : (xs : List Span) → length xs ≡ 0 → ongoing s ≡ words_judged s (pieces t xs)
-  words_none [] h = refl
-  words_none (a ∷ xs) h = absurd (omega arith)
-
   pub words_some : (xs rs : List Span) (d : Span) (l : Lexeme) (w : Piece) → 0 < length xs → rs ≡ drop 1 xs → w ≡ piece_on t (get_or xs 0 d) → l ≡ lexeme_of w → first_judged s (place_in l) (statement_of l (pieces t rs)) ≡ words_judged s (pieces t xs)
   words_some [] rs d l w h q e f = absurd (omega arith)
   words_some (a ∷ xs) rs d l w h q e f =

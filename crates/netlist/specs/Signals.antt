@@ -5,6 +5,7 @@ use Rattle.std.specs.Str.{bytes_eq}
 use Rattle.text.specs.Text.{Piece, piece}
 use Rattle.rows.specs.Rows.{Cover}
 
+-- a type of its own beside the code's, which keeps places of words and packed rows: here are the words and the rows themselves
 pub data Driver : Type 0 where
   undriven : Driver
   input : Driver

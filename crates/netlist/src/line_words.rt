@@ -30,6 +30,7 @@ impl LineWords {
         ensures { pieces text.now self.new.items.items ≡ words from (drop from text.now) }
     {
         self.items.clear();
+        // Each word tells where the next search begins; an iterator of words would serve this loop alone.
         let mut at = from;
         while let Some(word) = next_word(text, at) {
             at = word.at + word.text.len();

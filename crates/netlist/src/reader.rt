@@ -25,6 +25,7 @@ impl State {
         requires { length text.now ≤ max_bytes }
         ensures { reading_on text.now self.new result ≡ fold step_on (ongoing (state_on text.now self.old)) (lines 0 text.now) }
     {
+        // By places, since they are what a refusal names; an iterator of lines would serve this loop alone.
         let mut from = 0;
         while from <= text.len() {
             let end = line_end(text, from);

@@ -10,22 +10,10 @@ use text::word::Word;
 pub fn word_at(text: &[u8], span: Span) -> Word<'_>
     ensures { piece_of result ≡ piece_on text.now span }
 {
-    let at = span.at;
-    let len = span.len;
-    if at >= text.len() {
-        return Word {
-            text: &text[0..0],
-            at,
-        };
-    }
-    if len > text.len() - at {
-        return Word {
-            text: &text[at..],
-            at,
-        };
-    }
+    let from = span.at.min(text.len());
+    let len = span.len.min(text.len() - from);
     Word {
-        text: &text[at..at + len],
-        at,
+        text: &text[from..from + len],
+        at: span.at,
     }
 }

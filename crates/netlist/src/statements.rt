@@ -49,27 +49,16 @@ fn latch_words(input: u16, others: &[Span]) -> Latch
     ensures input { result.input ≡ input }
     ensures words { length others.now ≤ 3 → trigger_words result.trigger ++ initial_word result.initial ≡ others.now }
 {
-    match others {
-        [] => Latch {
-            input,
-            trigger: None,
-            initial: None,
-        },
-        [initial] => Latch {
-            input,
-            trigger: None,
-            initial: Some(*initial),
-        },
-        [kind, control] => Latch {
-            input,
-            trigger: Some((*kind, *control)),
-            initial: None,
-        },
-        [kind, control, initial, ..] => Latch {
-            input,
-            trigger: Some((*kind, *control)),
-            initial: Some(*initial),
-        },
+    let (trigger, initial) = match others {
+        [] => (None, None),
+        [initial] => (None, Some(*initial)),
+        [kind, control] => (Some((*kind, *control)), None),
+        [kind, control, initial, ..] => (Some((*kind, *control)), Some(*initial)),
+    };
+    Latch {
+        input,
+        trigger,
+        initial,
     }
 }
 
