@@ -20,7 +20,7 @@ use Rattle.netlist.specs.Faults.{State, fault, only_if, at_start, in_body, too_m
 use Rattle.netlist.specs.Effects.{state, effect, row_done}
 use Rattle.netlist.specs.Reading.{refused, ongoing, judged}
 use Rattle.netlist.specs.Outcomes.{first_of, first_judged}
-use Rattle.netlist.proofs.Firsts.{ok_err, first_on, first_stops}
+use Rattle.netlist.proofs.Firsts.{ok_err, first_on}
 use Rattle.netlist.proofs.Mentions.{few_none}
 use Rattle.netlist.proofs.Shapes.{list_none, list_one}
 

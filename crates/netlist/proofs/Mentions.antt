@@ -1,7 +1,7 @@
 -- Signals by mention, and their changes. Assumes nothing.
 use Rattle.std.proofs.Common.{◌≡◌, ℕ, zero, suc, ◌+◌, ◌<◌, ◌≤◌, false, List, [], ◌∷◌, ◌++◌, map, length, get_or, take, drop, set, Some, sym, refl, ap, ◌∙◌, ⊎_elim, arith, length-append}
 use Rattle.std.specs.Str.{bytes_eq}
-use Rattle.std.proofs.lemmas.List.{at_drop_more, at_drop_all, map_push, map-append, append_assoc, append-nil, take_more, take_more_set, take_all, map-set, set_past, get_or-map, length-map, drop_at, drop_all}
+use Rattle.std.proofs.lemmas.List.{at_drop_more, at_drop_all, map_push, map-append, append_assoc, append-nil, take_more, take_more_set, take_all, map-set, get_or-map, length-map, drop_at, drop_all}
 use Rattle.std.proofs.lemmas.Bool.{cases_Bool, cond-true, cond-false}
 use Rattle.fault.specs.declared.cause.Cause.TheVariants.{TooManySignals}
 use Rattle.fault.specs.declared.refusal.Refusal.{Refusal}

@@ -1,15 +1,10 @@
 -- The words of a row, and the gate that it joins. Assumes nothing.
-use Rattle.std.proofs.Common.{◌≡◌, ℕ, ◌<◌, ◌≤◌, false, List, [], ◌∷◌, length, get_or, take, set, Some, None, sym, refl, ap, ◌∙◌, arith}
-use Rattle.std.proofs.lemmas.List.{get_or-map, get_or_past, length-map, length-take-le, map-set, set_past}
+use Rattle.std.proofs.Common.{◌≡◌, ℕ, ◌<◌, List, length, get_or, take, set, sym, ap, ◌∙◌, arith}
+use Rattle.std.proofs.lemmas.List.{get_or-map, length-take-le, map-set}
 use Rattle.network.specs.declared.gate.Gate.{Gate}
-use Rattle.network.specs.declared.span.Span.{Span}
 use Rattle.network.specs.declared.signal.Signal as code
-use Rattle.rows.specs.Rows.{Row, Cover, row_fits_lem}
-use Rattle.text.specs.Text.{Piece}
 use Rattle.netlist.specs.Signals.{Signal, changed, no_signal}
-use Rattle.netlist.specs.Faults.{row_joins}
-use Rattle.netlist.specs.Statements.{row_of}
-use Rattle.netlist.specs.Views.{piece_on, pieces, signal_on, signals_on}
+use Rattle.netlist.specs.Views.{signal_on, signals_on}
 
 module _ (t : List ℕ) where
   module _ (cs : List code.Signal) (g : ℕ) where

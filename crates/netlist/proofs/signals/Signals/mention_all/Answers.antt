@@ -1,8 +1,8 @@
-use Rattle.std.proofs.Common.{sym, refl, ap, ◌∙◌}
+use Rattle.std.proofs.Common.{sym, ap, ◌∙◌}
 use Rattle.netlist.specs.Outcomes.{first_of, refusal, refusal_of}
 use Rattle.netlist.specs.Views.{signals_in}
 use Rattle.netlist.proofs.Firsts.{some_none, err_is}
-use Rattle.netlist.proofs.Mentions.{Many, full_here, fold_more, fold_none, few_none}
+use Rattle.netlist.proofs.Mentions.{Many, full_here, fold_none, few_none}
 use Rattle.netlist.proofs.Numbering.{few_in}
 use Rattle.netlist.proofs.Passes.{no_span}
 use Rattle.netlist.proofs.signals.Signals.mention_all.Goals as goal
@@ -14,9 +14,6 @@ returns-in_err-mention c =
       fault = e ∙ full_here c.args.text.now (signals_in c.args.text.now c.loop-w.self) c.args.names.now c.loop-w.w-index _ no_span (refusal_of c.in_err-mention.field-0.0) c.loop-w-test.true c.in_err-mention.ensures.fault c.loop-w.invariant;
       done = λ n. absurd (some_none (sym e ∙ n));
     }
-
-pub loop-w-preserved : goal.loop-w-preserved
-loop-w-preserved c = fold_more c.args.text.now (signals_in c.args.text.now c.loop-w.self) c.args.names.now c.loop-w.w-index _ no_span _ c.loop-w-test.true (c.in_ok-mention.ensures.done refl) c.loop-w.invariant
 
 pub returns : goal.returns
 returns c =

@@ -1,4 +1,4 @@
-use Rattle.std.proofs.Common.{◌-◌, length, take, refl, ◌∙◌, arith, rules, ltb-false, ltb-true}
+use Rattle.std.proofs.Common.{◌-◌, length, take, refl, ◌∙◌, arith, ltb-false, ltb-true}
 use Rattle.netlist.specs.Outcomes.{refusal_of, state_on}
 use Rattle.netlist.specs.Views.{signals_in}
 use Rattle.netlist.proofs.Admitted.{gate_known}
@@ -33,12 +33,6 @@ pin_numbers-feeders-requires c =
       few = c.in_ok-admit.ensures.pins refl;
       known = (gate_known (signals_in t c.args.self.now.signals) (signals_in t c.admit.new.self.signals) t c.args.names.now no_span _ (omega (arith, ltb-true, ltb-false)) refl (c.in_ok-admit.ensures.done refl)).0;
     }
-
-pub overflow_cast-gate : goal.overflow_cast-gate
-overflow_cast-gate c = let p = c.in_ok-admit.ensures.pins refl in omega (arith, p)
-
-pub invariant_of-gate : goal.invariant_of-gate
-invariant_of-gate c = let p = c.in_ok-admit.ensures.pins refl in search rules
 
 pub returns : goal.returns
 returns c =

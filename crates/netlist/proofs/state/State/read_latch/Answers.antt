@@ -9,18 +9,13 @@ use Rattle.netlist.proofs.Bodies.{carried}
 use Rattle.netlist.proofs.Elements.{latch_stops, latch_twice, latch_done}
 use Rattle.netlist.proofs.Judging.{wrong_refused}
 use Rattle.netlist.proofs.Passes.{no_span}
-use Rattle.netlist.proofs.Shapes.{latch_short, latch_no, rest_few}
+use Rattle.netlist.proofs.Shapes.{latch_short, rest_few}
 use Rattle.netlist.proofs.state.State.read_latch.Goals as goal
 
 pub returns-in_default : goal.returns-in_default
 returns-in_default c =
     let t = c.args.text.now in
     ap (λ f. refused (refusal_of f)) c.new.ensures ∙ wrong_refused (state_on t c.args.self.now) c.args.at (latch_of (pieces t c.args.rest.now)) (latch_short t c.args.rest.now (omega (arith, ltb-true, ltb-false)))
-
-pub returns-then-not-latch_rest : goal.returns-then-not-latch_rest
-returns-then-not-latch_rest c =
-    let t = c.args.text.now in
-    ap (λ f. refused (refusal_of f)) c.new-then-not-latch_rest.ensures ∙ wrong_refused (state_on t c.args.self.now) c.args.at (latch_of (pieces t c.args.rest.now)) (latch_no t c.args.rest.now _ (omega (arith, ltb-true, ltb-false)) (take_rest c.args.rest.now 2) c.if-not-latch_rest.ensures)
 
 pub returns-in_err-admit : goal.returns-in_err-admit
 returns-in_err-admit c =

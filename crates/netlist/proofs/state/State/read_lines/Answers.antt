@@ -1,19 +1,12 @@
-use Rattle.std.proofs.Common.{fold, sym, ap, ◌∙◌, arith}
-use Rattle.text.proofs.Linewise.{end_within, line_next, lines_end, lines_start}
+use Rattle.std.proofs.Common.{◌∙◌, arith}
+use Rattle.text.proofs.Linewise.{end_within, line_next}
 use Rattle.netlist.specs.Outcomes.{refusal_of, state_on}
-use Rattle.netlist.specs.Reading.{step_on, ongoing}
 use Rattle.netlist.proofs.Bodies.{carried}
 use Rattle.netlist.proofs.Stepwise.{lines_refused, lines_on}
 use Rattle.netlist.proofs.state.State.read_lines.Goals as goal
 
 pub overflow_add-from : goal.overflow_add-from
 overflow_add-from c = omega (arith, c.requires, end_within c.args.text.now c.loop-from.from c.line_end-end.result c.loop-from-test.true c.line_end-end.ensures)
-
-pub loop-from-smaller : goal.loop-from-smaller
-loop-from-smaller c = omega (arith, end_within c.args.text.now c.loop-from.from c.line_end-end.result c.loop-from-test.true c.line_end-end.ensures)
-
-pub loop-from-init : goal.loop-from-init
-loop-from-init c = ap (fold step_on (ongoing (state_on c.args.text.now c.args.self.now))) (lines_start c.args.text.now)
 
 pub loop-from-preserved : goal.loop-from-preserved
 loop-from-preserved c = lines_on (state_on c.args.text.now c.loop-from.self) _ _ _ _ (line_next c.args.text.now c.loop-from.from c.line_end-end.result c.loop-from-test.true c.line_end-end.ensures) c.loop-from.invariant _ c.in_ok-read_line.ensures
@@ -23,5 +16,3 @@ returns-in_err-read_line c =
     carried c.args.text.now c.read_line.new.self c.from_residual.result c.in_err-read_line.field-0.0 c.from_residual.ensures.0 c.from_residual.ensures.1
     ∙ lines_refused (state_on c.args.text.now c.loop-from.self) _ _ _ _ (line_next c.args.text.now c.loop-from.from c.line_end-end.result c.loop-from-test.true c.line_end-end.ensures) c.loop-from.invariant (refusal_of c.in_err-read_line.field-0.0) c.in_err-read_line.ensures
 
-pub returns : goal.returns
-returns c = ap (fold step_on (ongoing (state_on c.args.text.now c.loop-from.self))) (sym (lines_end c.args.text.now c.loop-from.from c.loop-from-test.false)) ∙ c.loop-from.invariant
