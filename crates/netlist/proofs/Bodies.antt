@@ -1,5 +1,5 @@
 -- Lines that name signals, judged fault by fault. Assumes nothing.
-use Rattle.std.proofs.Common.{◌≡◌, ℕ, Bool, true, false, cond, not, ◌||◌, List, [], ◌∷◌, ◌++◌, map, is_err, IsErrAnd, Some, None, Option, Result, sym, refl, ap, ◌∙◌}
+use Rattle.std.proofs.Common.{◌≡◌, ℕ, Bool, true, cond, not, ◌||◌, List, [], ◌∷◌, ◌++◌, map, is_err, IsErrAnd, Some, None, Option, Result, refl, ap, ◌∙◌}
 use Rattle.std.proofs.lemmas.List.{append_assoc}
 use Rattle.fault.specs.declared.cause.Cause.TheVariants.{BadLine, LongName, TooManyPins, TooManySignals, SecondDriver}
 use Rattle.fault.specs.declared.refusal.Refusal.{Refusal}
@@ -71,24 +71,3 @@ module _ (s : State) (at : ℕ) (ms : List Piece) (many : Bool) (ds : List Piece
 
     pub no_fault : (last : State) → None ≡ first_of (Twice now ds) → last ≡ after → ongoing last ≡ judged (first_of All) after
     no_fault last e q = ap ongoing q ∙ ap (λ (o : Option Refusal). judged o after) (past_names e)
-
--- ---- the faults up to a second driver, one by one
-
-module _ (s : State) (at : ℕ) (ms : List Piece) (many : Bool) (inside : true ≡ in_body s.stage) (plain : false ≡ has_dotted ms) where
-  placed : None ≡ first_of (map (fault BadLine) (only_if (not (in_body s.stage) || has_dotted ms) at))
-  placed =
-      ap (λ (b : Bool). first_of (map (fault BadLine) (only_if (not true || b) at))) plain
-      ∙ ap (λ (b : Bool). first_of (map (fault BadLine) (only_if (not b || has_dotted ms) at))) inside
-
-  pub admit_long : (f : Refusal) → Some f ≡ first_of (map (fault LongName) (long_names ms)) → Some f ≡ first_of (name_faults s at ms many)
-  admit_long f e = first_on (map (fault BadLine) (only_if (not (in_body s.stage) || has_dotted ms) at)) _ placed (first_stops (map (fault LongName) (long_names ms)) _ e)
-
-  module _ (short : None ≡ first_of (map (fault LongName) (long_names ms))) where
-    past_long : {r : Option Refusal} → r ≡ first_of (map (fault TooManyPins) (only_if many at) ++ map (fault TooManySignals) (too_many (mention_all s.signals ms))) → r ≡ first_of (name_faults s at ms many)
-    past_long e = first_on (map (fault BadLine) (only_if (not (in_body s.stage) || has_dotted ms) at)) _ placed (first_on (map (fault LongName) (long_names ms)) _ short e)
-
-    pub admit_pins : many ≡ true → Some (fault TooManyPins at) ≡ first_of (name_faults s at ms many)
-    admit_pins e = past_long (ap (λ (b : Bool). first_of (map (fault TooManyPins) (only_if b at) ++ map (fault TooManySignals) (too_many (mention_all s.signals ms)))) (sym e))
-
-    pub admit_many : {r : Option Refusal} → many ≡ false → r ≡ first_of (map (fault TooManySignals) (too_many (mention_all s.signals ms))) → r ≡ first_of (name_faults s at ms many)
-    admit_many e q = past_long (q ∙ ap (λ (b : Bool). first_of (map (fault TooManyPins) (only_if b at) ++ map (fault TooManySignals) (too_many (mention_all s.signals ms)))) (sym e))

@@ -7,9 +7,7 @@ use Rattle.rows.specs.Rows.{Row}
 use Rattle.text.specs.Text.{Piece}
 use Rattle.network.specs.declared.span.Span.{Span}
 use Rattle.text.specs.Words.{long_names}
-use Rattle.text.specs.Refusals as words
 use Rattle.text.specs.Refusals.{refusing}
-use Rattle.text.specs.declared.word_fault.WordFault.{WordFault}
 use Rattle.text.specs.declared.word_fault.WordFault.TheVariants.{LongName}
 use Rattle.netlist.specs.declared.stage.Stage.{Stage}
 use Rattle.netlist.specs.declared.stage.Stage.TheVariants.{Body, After}
@@ -32,10 +30,6 @@ Long ps = map (fault cause.LongName) ps
 abbrev err_or : {A F : Type 0} → F → Result A F → F
 err_or f (Ok x) = f
 err_or f (Err g) = g
-
-pub long_found : (ps : List ℕ) (f : WordFault) → Err f ≡ refusing LongName ps → Some (words.refusal_of f) ≡ first_of (Long ps)
-long_found [] f e = absurd (ok_err (sym e))
-long_found (p ∷ ps) f e = ap (λ r. Some (words.refusal_of (err_or f r))) e
 
 pub long_none : (ps : List ℕ) {x : Unit {0}} → Ok x ≡ refusing LongName ps → None ≡ first_of (Long ps)
 long_none [] e = refl

@@ -18,4 +18,3 @@ pub mod Driving
 pub mod Naming
 pub mod Lawful
 mod Joining
-mod Meanings

@@ -1,7 +1,7 @@
 -- Signals by mention, and their changes. Assumes nothing.
-use Rattle.std.proofs.Common.{◌≡◌, ℕ, zero, suc, ◌+◌, ◌<◌, ◌≤◌, false, List, [], ◌∷◌, ◌++◌, map, length, get_or, take, drop, set, Some, sym, refl, ap, ◌∙◌, ⊎_elim, arith, length-append}
+use Rattle.std.proofs.Common.{◌≡◌, ℕ, zero, suc, ◌+◌, ◌<◌, ◌≤◌, false, List, [], ◌∷◌, ◌++◌, map, length, get_or, drop, set, Some, sym, refl, ap, ◌∙◌, ⊎_elim, arith, length-append}
 use Rattle.std.specs.Str.{bytes_eq}
-use Rattle.std.proofs.lemmas.List.{at_drop_more, at_drop_all, map_push, map-append, append_assoc, append-nil, take_more, take_more_set, take_all, map-set, get_or-map, length-map, drop_at, drop_all}
+use Rattle.std.proofs.lemmas.List.{at_drop_more, at_drop_all, map_push, map-append, append_assoc, append-nil, map-set, get_or-map, length-map, drop_at, drop_all}
 use Rattle.std.proofs.lemmas.Bool.{cases_Bool, cond-true, cond-false}
 use Rattle.fault.specs.declared.cause.Cause.TheVariants.{TooManySignals}
 use Rattle.fault.specs.declared.refusal.Refusal.{Refusal}
@@ -10,7 +10,7 @@ use Rattle.network.specs.declared.signal.Signal as code
 use Rattle.network.specs.declared.signal.Driver.TheVariants.{Undriven}
 use Rattle.network.specs.Limit.{max_signals}
 use Rattle.text.specs.Text.{Piece}
-use Rattle.netlist.specs.Signals.{Signal, number_of, Known, mention, mention_all, fresh, changed, on_named, on_each, numbers, no_signal}
+use Rattle.netlist.specs.Signals.{Signal, number_of, Known, mention, mention_all, fresh, changed, on_named, no_signal}
 use Rattle.netlist.specs.Faults.{fault, too_many}
 use Rattle.netlist.specs.Outcomes.{first_of}
 use Rattle.netlist.specs.Views.{piece_on, pieces, signal_on, signals_on}
@@ -103,36 +103,5 @@ module _ (t : List ℕ) (ss : List Signal) (xs : List Span) (i : ℕ) (r : List 
       ∙ (ap (λ (ys : List Signal). first_of (Many (map Place ys))) z.1
       ∙ ap first_of (ap Many (map-append Place many z.0) ∙ map-append (fault TooManySignals) (map Place many) (map Place z.0))))
 
-  pub fold_more : (d : Span) (now : List Signal) → i < length xs → now ≡ mention ss (piece_on t (get_or xs i d)) → All (drop i xs) ≡ r → mention_all now (pieces t (drop (i + 1) xs)) ≡ r
-  fold_more d now h e inv = ap (λ (ys : List Signal). mention_all ys (pieces t (drop (i + 1) xs))) e ∙ (sym (at_drop_more All xs i d h) ∙ inv)
-
   pub fold_none : length xs ≤ i → All (drop i xs) ≡ r → ss ≡ r
   fold_none h inv = sym (at_drop_all All xs i h) ∙ inv
-
--- ---- changes one by one
-
-module _ (t : List ℕ) (f : Signal → Signal) (ss : List Signal) (xs : List Span) (i : ℕ) (r : List Signal) where
-  abbrev Each : List Span → List Signal
-  Each ys = on_each f ss (pieces t ys)
-
-  pub each_more : (d : Span) (now : List Signal) → i < length xs → now ≡ on_named f ss (piece_on t (get_or xs i d)) → Each (drop i xs) ≡ r → on_each f now (pieces t (drop (i + 1) xs)) ≡ r
-  each_more d now h e inv = ap (λ (ys : List Signal). on_each f ys (pieces t (drop (i + 1) xs))) e ∙ (sym (at_drop_more Each xs i d h) ∙ inv)
-
-  pub each_none : length xs ≤ i → Each (drop i xs) ≡ r → ss ≡ r
-  each_none h inv = sym (at_drop_all Each xs i h) ∙ inv
-
--- ---- pins
-
-module _ (t : List ℕ) (ss : List Signal) (xs : List Span) (found : List ℕ) (i : ℕ) where
-  pub pins_more : (d : Span) (k : ℕ) → i < length xs → i < length found → k ≡ number_of ss (piece_on t (get_or xs i d)).bytes → take i found ≡ numbers ss (pieces t (take i xs)) → take (i + 1) (set found i k) ≡ numbers ss (pieces t (take (i + 1) xs))
-  pins_more d k h l e inv =
-      take_more_set found i k l
-      ∙ (ap (λ (ys : List ℕ). ys ++ k ∷ []) inv
-      ∙ (ap (λ (y : ℕ). numbers ss (pieces t (take i xs)) ++ y ∷ []) e
-      ∙ sym (ap (λ (ys : List Span). numbers ss (pieces t ys)) (take_more xs i d h)
-      ∙ (ap (numbers ss) (map_push (piece_on t) (take i xs) (get_or xs i d)) ∙ map_push (λ (w : Piece). number_of ss w.bytes) (pieces t (take i xs)) (piece_on t (get_or xs i d))))))
-
-  pub pins_all : length xs ≤ i → i ≤ length xs → take i found ≡ numbers ss (pieces t (take i xs)) → take (length xs) found ≡ numbers ss (pieces t xs)
-  pins_all h l inv =
-      let q : length xs ≡ i = omega arith in
-      ap (λ (k : ℕ). take k found) q ∙ (inv ∙ ap (λ (ys : List Span). numbers ss (pieces t ys)) (take_all i xs h))

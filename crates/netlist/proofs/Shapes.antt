@@ -1,7 +1,7 @@
 -- The words after a command, by their number. Assumes nothing.
-use Rattle.std.proofs.Common.{◌≡◌, ℕ, ◌-◌, ◌<◌, ◌≤◌, Bool, true, false, ◌&&◌, List, [], ◌∷◌, ◌++◌, length, get_or, take, drop, sym, refl, ap, ◌∙◌, arith}
+use Rattle.std.proofs.Common.{◌≡◌, ℕ, ◌-◌, ◌<◌, ◌≤◌, Bool, true, ◌&&◌, List, [], ◌∷◌, ◌++◌, length, get_or, take, drop, sym, refl, ap, ◌∙◌, arith}
 use mathlib.Core.Bool.{false≢true}
-use Rattle.std.proofs.lemmas.Bool.{cond-true, cond-false}
+use Rattle.std.proofs.lemmas.Bool.{cond-true}
 use Rattle.network.specs.declared.span.Span.{Span}
 use Rattle.text.specs.Text.{Piece}
 use Rattle.text.specs.Words.{one_of, latch_types, initial_values}
@@ -57,11 +57,6 @@ module _ (t : List ℕ) where
   latch_short [] h = refl
   latch_short (a ∷ []) h = refl
   latch_short (a ∷ b ∷ xs) h = absurd (omega arith)
-
-  pub latch_no : (xs ws : List Span) → 2 ≤ length xs → ws ≡ drop 2 xs → false ≡ latch_rest (pieces t ws) → wrong ≡ latch_of (pieces t xs)
-  latch_no [] ws h q e = absurd (omega arith)
-  latch_no (a ∷ []) ws h q e = absurd (omega arith)
-  latch_no (a ∷ b ∷ xs) ws h q e = sym (cond-false (latch_rest (pieces t xs)) _ _ (sym (e ∙ ap (λ (ys : List Span). latch_rest (pieces t ys)) q)))
 
   pub latch_yes : (xs ws : List Span) (d : Span) → 2 ≤ length xs → ws ≡ drop 2 xs → true ≡ latch_rest (pieces t ws) → latch (piece_on t (get_or xs 0 d)) (piece_on t (get_or xs 1 d)) (pieces t ws) ≡ latch_of (pieces t xs)
   latch_yes [] ws d h q e = absurd (omega arith)

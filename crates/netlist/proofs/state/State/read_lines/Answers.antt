@@ -15,4 +15,3 @@ pub returns-in_err-read_line : goal.returns-in_err-read_line
 returns-in_err-read_line c =
     carried c.args.text.now c.read_line.new.self c.from_residual.result c.in_err-read_line.field-0.0 c.from_residual.ensures.0 c.from_residual.ensures.1
     ∙ lines_refused (state_on c.args.text.now c.loop-from.self) _ _ _ _ (line_next c.args.text.now c.loop-from.from c.line_end-end.result c.loop-from-test.true c.line_end-end.ensures) c.loop-from.invariant (refusal_of c.in_err-read_line.field-0.0) c.in_err-read_line.ensures
-
