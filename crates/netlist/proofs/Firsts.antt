@@ -1,17 +1,13 @@
 -- The first of some faults. Assumes nothing.
-use Rattle.std.proofs.Common.{◌≡◌, Bool, true, false, List, [], ◌∷◌, ◌++◌, is_err, IsErrAnd, Some, None, Ok, Err, Option, Result, sym, ap}
+use Rattle.std.proofs.Common.{◌≡◌, true, List, [], ◌∷◌, ◌++◌, is_err, IsErrAnd, Some, None, Ok, Err, Option, Result, sym, ap}
 use mathlib.Core.Bool.{false≢true}
 use Rattle.netlist.specs.Outcomes.{first_of}
 
-abbrev is_none : {A : Type 0} → Option A → Bool
-is_none None = true
-is_none (Some x) = false
-
 pub some_none : {A : Type 0} {x : A} → Some x ≡ None → ⊥
-some_none {A} e = false≢true (ap (is_none {A = A}) e)
+some_none e = cc
 
 pub ok_err : {A F : Type 0} {x : A} {f : F} → Ok x ≡ Err f → ⊥
-ok_err {A} {F} e = false≢true (ap (is_err {T = A} {E = F}) e)
+ok_err e = cc
 
 -- an error that `?` carried on
 pub err_is : {X F : Type 0} (r : Result X F) (f : F) → is_err r ≡ true → IsErrAnd r (λ e. e ≡ f) → r ≡ Err f

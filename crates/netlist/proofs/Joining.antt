@@ -26,10 +26,10 @@ reached f (wire w) = wire (f _ _ w)
 reached f (further r w) = further (reached f r) (f _ _ w)
 
 module _ (text : List ℕ) where
-  driver_on_lem : (xs : List Signal) (s : ℕ) → (get_or (signals_on text xs) s no_signal).driver ≡ driver_on text (driver xs s)
-  driver_on_lem [] s = refl
-  driver_on_lem (x ∷ xs) zero = refl
-  driver_on_lem (x ∷ xs) (suc s) = driver_on_lem xs s
+  driver_same : (xs : List Signal) (s : ℕ) → (get_or (signals_on text xs) s no_signal).driver ≡ driver_on text (driver xs s)
+  driver_same [] s = refl
+  driver_same (x ∷ xs) zero = refl
+  driver_same (x ∷ xs) (suc s) = driver_same xs s
 
   pub place_on : (xs : List Signal) (s : ℕ) → (get_or (signals_on text xs) s no_signal).name.place ≡ (get_or xs s absent).name.at
   place_on [] s = refl
@@ -50,10 +50,10 @@ module _ (text : List ℕ) where
 
   module _ (xs : List Signal) where
     count_at : (s : ℕ) → length (pins_at (signals_on text xs) s) ≡ pin_count_lem (driver xs s)
-    count_at s = ap (λ d. length (pins_of d)) (driver_on_lem xs s) ∙ count_on (driver xs s)
+    count_at s = ap (λ d. length (pins_of d)) (driver_same xs s) ∙ count_on (driver xs s)
 
     pin_at : (s k : ℕ) → k < pin_count_lem (driver xs s) → get_or (pins_at (signals_on text xs) s) k 0 ≡ signal_at_pin (driver xs s) k
-    pin_at s k h = ap (λ d. get_or (pins_of d) k 0) (driver_on_lem xs s) ∙ pin_on (driver xs s) k h
+    pin_at s k h = ap (λ d. get_or (pins_of d) k 0) (driver_same xs s) ∙ pin_on (driver xs s) k h
 
     to_net : (u s : ℕ) → Wire (signals_on text xs) u s → net.Wire xs u s
     to_net u s w =

@@ -3,9 +3,7 @@ pub mod Passes
 pub mod Mentions
 pub mod Looking
 pub mod Numbering
-pub mod Rowwise
 pub mod Shapes
-pub mod Judging
 pub mod Bodies
 pub mod Elements
 pub mod Ascending

@@ -35,16 +35,16 @@ mention_new (s ∷ ss) w h =
     ∙ ap {B = List Signal} (λ xs. s ∷ xs) (mention_new ss w (omega (arith, cond-false (bytes_eq s.name.bytes w.bytes) 0 (suc (number_of ss w.bytes)) f))))
     (cases_Bool (bytes_eq s.name.bytes w.bytes))
 
--- a signal more, and a signal changed
+-- a signal changed, and a signal more
+pub changed_at : (t : List ℕ) (cs : List code.Signal) (k : ℕ) (f : Signal → Signal) (x d : code.Signal) → k < length cs → signal_on t x ≡ f (signal_on t (get_or cs k d)) → signals_on t (set cs k x) ≡ changed f (signals_on t cs) k
+changed_at t cs k f x d h q = map-set (signal_on t) cs k x ∙ ap (set (signals_on t cs) k) (q ∙ ap f (sym (get_or-map (signal_on t) cs k d no_signal h)))
+
 module _ (t : List ℕ) (cs : List code.Signal) (w : Span) where
   pub code_pushed : (more : List code.Signal) → more ≡ cs ++ record { name = w; driver = Undriven; output = false; captured = false } ∷ [] → length (signals_on t cs) ≤ number_of (signals_on t cs) (piece_on t w).bytes → signals_on t more ≡ mention (signals_on t cs) (piece_on t w)
   code_pushed more q h = ap (signals_on t) q ∙ (map_push (signal_on t) cs _ ∙ sym (mention_new (signals_on t cs) (piece_on t w) h))
 
-  module _ (f : Signal → Signal) where
-    pub change_here : (k : ℕ) (x d : code.Signal) → Known (signals_on t cs) (piece_on t w).bytes × (k ≡ number_of (signals_on t cs) (piece_on t w).bytes) → signal_on t x ≡ f (signal_on t (get_or cs k d)) → signals_on t (set cs k x) ≡ on_named f (signals_on t cs) (piece_on t w)
-    change_here k x d h q =
-        map-set (signal_on t) cs k x
-        ∙ (ap (set (signals_on t cs) k) (q ∙ ap f (sym (get_or-map (signal_on t) cs k d no_signal (omega (arith, h.0, h.1, length-map cs (signal_on t)))))) ∙ ap (changed f (signals_on t cs)) h.1)
+  pub change_here : (f : Signal → Signal) (k : ℕ) (x d : code.Signal) → Known (signals_on t cs) (piece_on t w).bytes × (k ≡ number_of (signals_on t cs) (piece_on t w).bytes) → signal_on t x ≡ f (signal_on t (get_or cs k d)) → signals_on t (set cs k x) ≡ on_named f (signals_on t cs) (piece_on t w)
+  change_here f k x d h q = changed_at t cs k f x d (omega (arith, h.0, h.1, length-map cs (signal_on t))) q ∙ ap (changed f (signals_on t cs)) h.1
 
 -- ---- one too many
 

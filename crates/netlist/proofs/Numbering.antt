@@ -13,11 +13,16 @@ use Rattle.network.specs.declared.span.Span.{Span}
 use Rattle.text.specs.Words.{any_of, one_of}
 use Rattle.netlist.specs.declared.signals.Signals.{Signals}
 use Rattle.netlist.specs.Outcomes.{Numbers}
+use Rattle.netlist.specs.Faults.{too_many}
 use Rattle.netlist.specs.Signals.{Signal, number_of, Known}
 use Rattle.netlist.specs.Views.{piece_on, bytes_of, signal_on, signals_on, signals_in}
+use Rattle.netlist.proofs.Mentions.{few_none}
 
 pub few_in : (t : List ℕ) (s : Signals) → length (signals_in t s) ≤ max_signals
 few_in t s = omega (arith, length-map (vec_items s.items) (signal_on t), s.items.ok.0, s.few)
+
+pub none_many : (t : List ℕ) (s : Signals) → too_many (signals_in t s) ≡ []
+none_many t s = few_none (signals_in t s) (signals_in t s) (few_in t s) refl
 
 -- a test over the words of a text
 pub any_over : {A B : Type 0} (p : B → Bool) (f : A → B) (xs : List A) → list_any (λ x. p (f x)) xs ≡ any_of p (map f xs)

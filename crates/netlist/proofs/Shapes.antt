@@ -1,11 +1,9 @@
 -- The words after a command, by their number. Assumes nothing.
-use Rattle.std.proofs.Common.{◌≡◌, ℕ, ◌-◌, ◌<◌, ◌≤◌, Bool, true, ◌&&◌, List, [], ◌∷◌, ◌++◌, length, get_or, take, drop, sym, refl, ap, ◌∙◌, arith}
-use mathlib.Core.Bool.{false≢true}
+use Rattle.std.proofs.Common.{◌≡◌, ℕ, ◌-◌, ◌<◌, ◌≤◌, true, List, [], ◌∷◌, ◌++◌, length, get_or, take, drop, sym, refl, ap, ◌∙◌, arith}
 use Rattle.std.proofs.lemmas.Bool.{cond-true}
 use Rattle.network.specs.declared.span.Span.{Span}
 use Rattle.text.specs.Text.{Piece}
-use Rattle.text.specs.Words.{one_of, latch_types, initial_values}
-use Rattle.netlist.specs.Statements.{gate, latch, wrong, front_of, last_of, gate_of, latch_rest, latch_of}
+use Rattle.netlist.specs.Statements.{gate, latch, wrong, model, ending, front_of, last_of, model_of, gate_of, latch_rest, latch_of, end_of}
 use Rattle.netlist.specs.Views.{piece_on, pieces}
 
 -- ---- lists of a known length
@@ -19,32 +17,13 @@ list_one [] d h = absurd (omega arith)
 list_one (a ∷ []) d h = refl
 list_one (a ∷ b ∷ xs) d h = absurd (omega arith)
 
-pub list_three : (xs : List Span) (d : Span) → length xs ≡ 3 → get_or xs 0 d ∷ get_or xs 1 d ∷ get_or xs 2 d ∷ [] ≡ xs
-list_three [] d h = absurd (omega arith)
-list_three (a ∷ []) d h = absurd (omega arith)
-list_three (a ∷ b ∷ []) d h = absurd (omega arith)
-list_three (a ∷ b ∷ c ∷ []) d h = refl
-list_three (a ∷ b ∷ c ∷ e ∷ xs) d h = absurd (omega arith)
+-- ---- the words after .model and after .end
 
--- ---- the words after a latch's output
+pub model_is : (t : List ℕ) (xs : List Span) (d : Span) → length xs ≡ 1 → model (piece_on t (get_or xs 0 d)) ≡ model_of (pieces t xs)
+model_is t xs d h = ap (λ (ys : List Span). model_of (pieces t ys)) (list_one xs d h)
 
--- by the first word's test a and the last word's test b
-module _ (t : List ℕ) (xs : List Span) (d : Span) where
-  pub rest_none : length xs ≡ 0 → true ≡ latch_rest (pieces t xs)
-  rest_none h = ap (λ (ys : List Span). latch_rest (pieces t ys)) (list_none xs h)
-
-  pub rest_three : length xs ≡ 3 → (w v : Piece) (a b : Bool) → w ≡ piece_on t (get_or xs 0 d) → v ≡ piece_on t (get_or xs 2 d) → a ≡ one_of latch_types w.bytes → b ≡ one_of initial_values v.bytes → (a && b) ≡ latch_rest (pieces t xs)
-  rest_three h w v a b e f p q =
-      ap (λ (x : Bool). x && b) (p ∙ ap (λ (y : Piece). one_of latch_types y.bytes) e)
-      ∙ (ap (λ (x : Bool). one_of latch_types (piece_on t (get_or xs 0 d)).bytes && x) (q ∙ ap (λ (y : Piece). one_of initial_values y.bytes) f)
-      ∙ ap (λ (ys : List Span). latch_rest (pieces t ys)) (list_three xs d h))
-
-pub rest_few : (t : List ℕ) (xs : List Span) → latch_rest (pieces t xs) ≡ true → length xs ≤ 3
-rest_few t [] e = omega arith
-rest_few t (a ∷ []) e = omega arith
-rest_few t (a ∷ b ∷ []) e = omega arith
-rest_few t (a ∷ b ∷ c ∷ []) e = omega arith
-rest_few t (a ∷ b ∷ c ∷ f ∷ xs) e = absurd (false≢true e)
+pub end_is : (t : List ℕ) (xs : List Span) → length xs ≡ 0 → ending ≡ end_of (pieces t xs)
+end_is t xs h = ap (λ (ys : List Span). end_of (pieces t ys)) (list_none xs h)
 
 pub front_last : (w : Piece) (ws : List Piece) → w ∷ ws ≡ front_of w ws ++ last_of w ws ∷ []
 front_last w [] = refl

@@ -1,5 +1,5 @@
 -- What the code answers.
-use Rattle.std.specs.Prelude.{◌≡◌, ℕ, ◌≤◌, Bool, not, ◌||◌, List, [], ◌∷◌, ◌++◌, map, length, Some, None, Ok, Err, Option, Result}
+use Rattle.std.specs.Prelude.{◌≡◌, ℕ, ◌≤◌, Bool, true, false, not, ◌||◌, List, [], ◌∷◌, ◌++◌, map, length, Some, None, Ok, Err, Option, Result}
 use Rattle.fault.specs.declared.refusal.Refusal.{Refusal}
 use Rattle.fault.specs.declared.cause.Cause.TheVariants.{BadLine, LongName, TooManyPins, TooManySignals}
 use Rattle.text.specs.Text.{Piece}
@@ -8,14 +8,15 @@ use Rattle.rows.specs.Rows as rows
 use Rattle.rows.specs.Views.{row_on}
 use Rattle.rows.specs.declared.row.Row.{Row}
 use Rattle.text.specs.Refusals as words
+use Rattle.network.specs.declared.span.Span.{Span}
 use Rattle.netlist.specs.declared.netlist_fault.NetlistFault.{NetlistFault}
 use Rattle.netlist.specs.declared.netlist_fault.NetlistFault.TheVariants.{OfWord, OfNetlist}
 use Rattle.netlist.specs.declared.state.State as code
 use Rattle.netlist.specs.Signals.{Signal, number_of, Known, mention_all}
-use Rattle.netlist.specs.Statements.{Statement}
+use Rattle.netlist.specs.Statements.{Statement, latch_rest}
 use Rattle.netlist.specs.Faults.{State, fault, only_if, in_body, has_dotted, too_many, rule_faults, word_faults}
 use Rattle.netlist.specs.Effects.{state, effect, words_effect}
-use Rattle.netlist.specs.Views.{signals_in}
+use Rattle.netlist.specs.Views.{pieces, trigger_words, initial_word, signals_in}
 use Rattle.netlist.specs.Reading.{Reading, refused, ongoing, judged}
 
 -- a fault of a word is the word's refusal
@@ -30,6 +31,11 @@ refusal (Err f) = Some (refusal_of f)
 abbrev pub first_of : {A : Type 0} → List A → Option A
 first_of [] = None
 first_of (x ∷ xs) = Some x
+
+-- the words after a latch's output, where they may stand
+abbrev pub LatchWords : List ℕ → List Span → Option (Option (Span × Span) × Option Span) → Type 0
+LatchWords text ws None = false ≡ latch_rest (pieces text ws)
+LatchWords text ws (Some w) = (true ≡ latch_rest (pieces text ws)) × (trigger_words w.0 ++ initial_word w.1 ≡ ws)
 
 -- the number of the signal of this name, if there is one
 abbrev pub Numbers : List Signal → List ℕ → Option ℕ → Type 0

@@ -1,10 +1,11 @@
 // Statements: each is judged, and then does what it says.
-ghost use Rattle.std.specs.Prelude.{◌≡◌, ◌≤◌, ◌++◌, length, None, nat_lt};
+ghost use Rattle.std.specs.Prelude.{◌≡◌, ◌≤◌, None, nat_lt};
+ghost use Rattle.text.specs.Words.{one_of, latch_types, initial_values};
 ghost use Rattle.netlist.specs.Signals.{mention_all};
-ghost use Rattle.netlist.specs.Statements.{inputs, outputs, model_of, gate_of, latch_of, latch_rest, end_of};
+ghost use Rattle.netlist.specs.Statements.{inputs, outputs, model_of, gate_of, latch_of, end_of};
 ghost use Rattle.netlist.specs.Faults.{at_start, in_body};
-ghost use Rattle.netlist.specs.Views.{pieces, signals_in, trigger_words, initial_word};
-ghost use Rattle.netlist.specs.Outcomes.{first_of, refusal, state_on, reading_on, name_faults, first_judged};
+ghost use Rattle.netlist.specs.Views.{piece_on, pieces, signals_in};
+ghost use Rattle.netlist.specs.Outcomes.{LatchWords, first_of, refusal, state_on, reading_on, name_faults, first_judged};
 
 use crate::change::Change;
 use crate::names::{check_names, has_dotted};
@@ -31,34 +32,31 @@ fn in_body(stage: Stage) -> bool
     matches!(stage, Stage::Body | Stage::Rows(_))
 }
 
-// Whether these may follow a latch's output: a type and a control or neither, then an initial value or none.
-fn latch_rest(text: &[u8], rest: &[Span]) -> bool
-    ensures { result ≡ latch_rest (pieces text.now rest.now) }
+fn is_kind(text: &[u8], word: Span) -> bool
+    ensures { result ≡ one_of latch_types (piece_on text.now word).bytes }
 {
-    match rest {
-        [] => true,
-        [initial] => is_initial_value(word_at(text, *initial).text),
-        [kind, _] => is_latch_type(word_at(text, *kind).text),
-        [kind, _, initial] => is_latch_type(word_at(text, *kind).text)
-            && is_initial_value(word_at(text, *initial).text),
-        _ => false,
-    }
+    is_latch_type(word_at(text, word).text)
 }
 
-fn latch_words(input: u16, others: &[Span]) -> Latch
-    ensures input { result.input ≡ input }
-    ensures words { length others.now ≤ 3 → trigger_words result.trigger ++ initial_word result.initial ≡ others.now }
+fn is_initial(text: &[u8], word: Span) -> bool
+    ensures { result ≡ one_of initial_values (piece_on text.now word).bytes }
 {
-    let (trigger, initial) = match others {
-        [] => (None, None),
-        [initial] => (None, Some(*initial)),
-        [kind, control] => (Some((*kind, *control)), None),
-        [kind, control, initial, ..] => (Some((*kind, *control)), Some(*initial)),
-    };
-    Latch {
-        input,
-        trigger,
-        initial,
+    is_initial_value(word_at(text, word).text)
+}
+
+// A latch's type and control or neither, and its initial value or none, if these words may follow its output.
+fn latch_words(text: &[u8], rest: &[Span]) -> Option<(Option<(Span, Span)>, Option<Span>)>
+    ensures { LatchWords text.now rest.now result }
+{
+    match rest {
+        [] => Some((None, None)),
+        [initial] => is_initial(text, *initial).then_some((None, Some(*initial))),
+        [kind, control] => is_kind(text, *kind).then_some((Some((*kind, *control)), None)),
+        [kind, control, initial] => (is_kind(text, *kind) && is_initial(text, *initial)).then_some((
+            Some((*kind, *control)),
+            Some(*initial),
+        )),
+        _ => None,
     }
 }
 
@@ -162,13 +160,16 @@ impl State {
         let [input, output, others @ ..] = rest else {
             return Err(NetlistFault::new(Cause::BadLine, at));
         };
-        if !latch_rest(text, others) {
+        let Some((trigger, initial)) = latch_words(text, others) else {
             return Err(NetlistFault::new(Cause::BadLine, at));
-        }
+        };
         self.admit(text, at, &rest[0..2], 0)?;
         self.signals.check_drivers(text, &[*output])?;
-        let number = self.signals.number_of(text, *input) as u16;
-        let latch = latch_words(number, others);
+        let latch = Latch {
+            input: self.signals.number_of(text, *input) as u16,
+            trigger,
+            initial,
+        };
         self.signals
             .change_named(text, *output, Change::Drive(Driver::Latched(latch)));
         self.signals.change_named(text, *input, Change::Capture);
