@@ -1,3 +1,4 @@
+pub mod Climbing
 pub mod Firsts
 pub mod Passes
 pub mod Mentions

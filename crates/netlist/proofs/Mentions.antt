@@ -1,8 +1,8 @@
 -- Signals by mention, and their changes. Assumes nothing.
-use Rattle.std.proofs.Common.{◌≡◌, ℕ, zero, suc, ◌+◌, ◌<◌, ◌≤◌, false, List, [], ◌∷◌, ◌++◌, map, length, get_or, drop, set, Some, sym, refl, ap, ◌∙◌, ⊎_elim, arith, length-append}
+use Rattle.std.proofs.Common.{◌≡◌, ℕ, zero, suc, ◌+◌, ◌<◌, ◌≤◌, false, List, [], ◌∷◌, ◌++◌, map, length, get_or, drop, set, Some, sym, refl, ap, ◌∙◌, ◌⊎◌, inl, inr, ⊎_elim, arith, length-append}
 use Rattle.std.specs.Str.{bytes_eq}
 use Rattle.std.proofs.lemmas.List.{at_drop_more, at_drop_all, map_push, map-append, append_assoc, append-nil, map-set, get_or-map, length-map, drop_at, drop_all}
-use Rattle.std.proofs.lemmas.Bool.{cases_Bool, cond-true, cond-false}
+use Rattle.std.proofs.lemmas.Bool.{cases_Bool, cases_lt, cond-true, cond-false}
 use Rattle.fault.specs.declared.cause.Cause.TheVariants.{TooManySignals}
 use Rattle.fault.specs.declared.refusal.Refusal.{Refusal}
 use Rattle.network.specs.declared.span.Span.{Span}
@@ -35,6 +35,9 @@ mention_new (s ∷ ss) w h =
     ∙ ap {B = List Signal} (λ xs. s ∷ xs) (mention_new ss w (omega (arith, cond-false (bytes_eq s.name.bytes w.bytes) 0 (suc (number_of ss w.bytes)) f))))
     (cases_Bool (bytes_eq s.name.bytes w.bytes))
 
+pub mention_ways : (ss : List Signal) (w : Piece) → (mention ss w ≡ ss) ⊎ (mention ss w ≡ ss ++ fresh w ∷ [])
+mention_ways ss w = ⊎_elim (λ l. inl (sym (mention_old ss w l))) (λ l. inr (mention_new ss w l)) (cases_lt (number_of ss w.bytes) (length ss))
+
 -- a signal changed, and a signal more
 pub changed_at : (t : List ℕ) (cs : List code.Signal) (k : ℕ) (f : Signal → Signal) (x d : code.Signal) → k < length cs → signal_on t x ≡ f (signal_on t (get_or cs k d)) → signals_on t (set cs k x) ≡ changed f (signals_on t cs) k
 changed_at t cs k f x d h q = map-set (signal_on t) cs k x ∙ ap (set (signals_on t cs) k) (q ∙ ap f (sym (get_or-map (signal_on t) cs k d no_signal h)))
@@ -49,12 +52,7 @@ module _ (t : List ℕ) (cs : List code.Signal) (w : Span) where
 -- ---- one too many
 
 mention_grows : (ss : List Signal) (w : Piece) → (more : List Signal) × (mention ss w ≡ ss ++ more)
-mention_grows [] w = (fresh w ∷ [], refl)
-mention_grows (s ∷ ss) w =
-    ⊎_elim
-    (λ t. ([], cond-true (bytes_eq s.name.bytes w.bytes) _ _ t ∙ sym (append-nil (s ∷ ss))))
-    (λ f. ((mention_grows ss w).0, cond-false (bytes_eq s.name.bytes w.bytes) _ _ f ∙ ap {B = List Signal} (λ xs. s ∷ xs) (mention_grows ss w).1))
-    (cases_Bool (bytes_eq s.name.bytes w.bytes))
+mention_grows ss w = ⊎_elim (λ e. ([], e ∙ sym (append-nil ss))) (λ e. (fresh w ∷ [], e)) (mention_ways ss w)
 
 all_grow : (ws : List Piece) (ss : List Signal) → (more : List Signal) × (mention_all ss ws ≡ ss ++ more)
 all_grow [] ss = ([], sym (append-nil ss))

@@ -1,12 +1,11 @@
 -- The number of a name among the signals that the code holds. Assumes nothing.
-use Rattle.std.proofs.Common.{◌≡◌, ℕ, suc, ◌+◌, ◌≤◌, Bool, true, false, cond, not, ltb, ◌||◌, List, [], ◌∷◌, map, length, Some, None, vec_items, is_some, Option, sym, refl, ap, ◌∙◌, subst, ⊎_elim, true≢false, arith}
+use Rattle.std.proofs.Common.{◌≡◌, ℕ, suc, ◌+◌, ◌≤◌, Bool, true, false, cond, not, ltb, ◌||◌, List, [], ◌∷◌, map, length, Some, None, vec_items, is_some, Option, sym, refl, ap, ◌∙◌, subst, true≢false, arith}
 use mathlib.Core.Bool.{false≢true}
 use Rattle.std.specs.List.{list_any, position_or_len}
 use Rattle.std.specs.Str.{bytes_eq}
 use Rattle.std.proofs.lemmas.Bool.Decides.{same_from_decides}
 use Rattle.std.proofs.lemmas.Slice.Eq.{bytes_eq-Decides}
 use Rattle.std.proofs.lemmas.List.{length-map}
-use Rattle.std.proofs.lemmas.Bool.{cases_lt, cond-true, cond-false, lt-ltb, le-ltb}
 use Rattle.network.specs.Limit.{max_signals}
 use Rattle.network.specs.declared.signal.Signal as code
 use Rattle.network.specs.declared.span.Span.{Span}
@@ -52,11 +51,7 @@ module _ (t n : List ℕ) where
       flip false e = omega (arith, e)
 
   numbers_of : (ss : List Signal) (k : ℕ) → k ≡ number_of ss n → Numbers ss n (cond (ltb k (length ss)) (Some k) None)
-  numbers_of ss k e =
-      ⊎_elim
-      (λ l. subst (Numbers ss n) (sym (cond-true (ltb k (length ss)) (Some k) None (lt-ltb k (length ss) l))) (omega (arith, e), e))
-      (λ g. subst (Numbers ss n) (sym (cond-false (ltb k (length ss)) (Some k) None (le-ltb k (length ss) g))) (omega (arith, e)))
-      (cases_lt k (length ss))
+  numbers_of ss k e = grind arith
 
   pub position_is : (ss : List code.Signal) {r : Option ℕ} → r ≡ cond (ltb (position_or_len called ss) (length ss)) (Some (position_or_len called ss)) None → Numbers (signals_on t ss) n r
   position_is ss e =

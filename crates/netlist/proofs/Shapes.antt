@@ -1,6 +1,5 @@
 -- The words after a command, by their number. Assumes nothing.
 use Rattle.std.proofs.Common.{◌≡◌, ℕ, ◌-◌, ◌<◌, ◌≤◌, true, List, [], ◌∷◌, ◌++◌, length, get_or, take, drop, sym, refl, ap, ◌∙◌, arith}
-use Rattle.std.proofs.lemmas.Bool.{cond-true}
 use Rattle.network.specs.declared.span.Span.{Span}
 use Rattle.text.specs.Text.{Piece}
 use Rattle.netlist.specs.Statements.{gate, latch, wrong, model, ending, front_of, last_of, model_of, gate_of, latch_rest, latch_of, end_of}
@@ -40,9 +39,7 @@ module _ (t : List ℕ) where
   pub latch_yes : (xs ws : List Span) (d : Span) → 2 ≤ length xs → ws ≡ drop 2 xs → true ≡ latch_rest (pieces t ws) → latch (piece_on t (get_or xs 0 d)) (piece_on t (get_or xs 1 d)) (pieces t ws) ≡ latch_of (pieces t xs)
   latch_yes [] ws d h q e = absurd (omega arith)
   latch_yes (a ∷ []) ws d h q e = absurd (omega arith)
-  latch_yes (a ∷ b ∷ xs) ws d h q e =
-      ap (λ (ys : List Span). latch (piece_on t a) (piece_on t b) (pieces t ys)) q
-      ∙ sym (cond-true (latch_rest (pieces t xs)) _ _ (sym (e ∙ ap (λ (ys : List Span). latch_rest (pieces t ys)) q)))
+  latch_yes (a ∷ b ∷ xs) ws d h q e = grind arith
 
   pub latch_names : (xs : List Span) (d : Span) → 2 ≤ length xs → pieces t (take 2 xs) ≡ piece_on t (get_or xs 0 d) ∷ piece_on t (get_or xs 1 d) ∷ []
   latch_names [] d h = absurd (omega arith)

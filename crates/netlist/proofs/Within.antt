@@ -14,7 +14,7 @@ use Rattle.netlist.specs.Effects.{rowed, add_row, row_at, row_done, done, effect
 use Rattle.netlist.specs.Faults.{State}
 use Rattle.netlist.specs.Signals.{Signal, Driver, undriven, input, latched, gates, number_of, Known, Mentioned, fresh, mention, mention_all, changed, on_named, on_each, no_signal, driven, as_output, as_captured, numbers}
 use Rattle.netlist.specs.Statements.{Statement, model, inputs, outputs, gate, latch, row, ending, wrong, mentions_of}
-use Rattle.netlist.proofs.Ascending.{mention_ways}
+use Rattle.netlist.proofs.Mentions.{mention_ways}
 
 -- ---- names that are there
 
