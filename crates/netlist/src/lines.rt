@@ -54,6 +54,7 @@ impl State {
     }
 
     /// Reads the line from `from` to `end`, with room for its words.
+    // That the text fits stays a clause: a type for such texts would be taken apart at every other call.
     pub fn read_line(
         &mut self,
         text: &[u8],

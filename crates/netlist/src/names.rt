@@ -25,7 +25,7 @@ fn is_dotted(text: &[u8], name: Span) -> bool
 pub fn has_dotted(text: &[u8], names: &[Span]) -> bool
     ensures { result ≡ has_dotted (pieces text.now names.now) }
 {
-    names.iter().any(|w| !matches!(token_of(word_at(text, *w)), Token::Plain(_)))
+    names.iter().any(|w| is_dotted(text, *w))
 }
 
 /// Refuses the first of the names that is too long.

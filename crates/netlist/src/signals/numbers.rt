@@ -25,10 +25,7 @@ impl Signals {
         ensures is { result ≡ number_of (signals_in text.now self.now) (piece_on text.now name).bytes }
         ensures within { result < max_signals }
     {
-        let Some(number) = self.position(text, name) else {
-            unreachable!()
-        };
-        number
+        self.position(text, name).unwrap()
     }
 
     /// The numbers of a gate's pins, which have been mentioned.
