@@ -1,12 +1,12 @@
 -- What holds line after line holds of an accepted text. Assumes nothing.
 use Rattle.std.proofs.Common.{◌≡◌, ℕ, ◌<◌, ◌≤◌, Bool, true, false, cond, ltb, List, [], ◌∷◌, ◌++◌, map, length, get_or, take, fold, filter, sym, refl, ap, ◌∙◌, subst, ⊎_elim, arith}
-use mathlib.Core.Bool.{false≢true}
 use Rattle.std.specs.List.{AllByRecursion}
 use Rattle.std.proofs.ByRecursion.{All-get_or}
-use Rattle.std.proofs.lemmas.List.{append_assoc, append-nil, get_or-map, get_or_past, get_or-take, length-map}
+use Rattle.std.proofs.lemmas.List.{append_assoc, append-nil, get_or-map, get_or_past, get_or-take, length-map, length-take-le}
+use Rattle.network.specs.declared.gate.Gate.{Gate}
 use Rattle.std.proofs.lemmas.Bool.{cases_Bool, cases_lt, cond-true, cond-false, not-false}
 use Rattle.fault.specs.declared.refusal.Refusal.{Refusal}
-use Rattle.network.specs.Wiring.{Driven, Wired, LatchesWired, absent, is_driven_lem, pin_count_lem, signal_at_pin, Captures}
+use Rattle.network.specs.Wiring.{Driven, Wired, LatchesWired, absent, is_driven_of, number_of_pins, signal_at_pin, Captures}
 use Rattle.network.specs.declared.signal.Driver as code
 use Rattle.network.specs.declared.signal.Driver.TheVariants.{Undriven, Input, Latched, Gated}
 use Rattle.network.specs.declared.signal.Signal as codes
@@ -22,33 +22,24 @@ use Rattle.netlist.specs.Signals.{Signal, is_undriven, no_signal}
 use Rattle.netlist.specs.Statements.{statement_of}
 use Rattle.netlist.specs.Views.{driver_on, signal_on, signals_on}
 use Rattle.netlist.proofs.Passes.{undriven_is}
-use Rattle.netlist.proofs.Rowwise.{pin_count_is}
 use Rattle.netlist.proofs.Stepwise.{refused_stays}
 use Rattle.netlist.proofs.Within.{Within, DriverWithin, effect_within}
 
 -- ---- readings and verdicts apart
 
-abbrev is_refused : Reading → Bool
-is_refused (refused f) = true
-is_refused (ongoing s) = false
-
 abbrev state_or : State → Reading → State
 state_or d (refused f) = d
 state_or d (ongoing s) = s
-
-abbrev refuses_all : Verdict → Bool
-refuses_all (refuses f) = true
-refuses_all (netlist ss) = false
 
 abbrev signals_or : List Signal → Verdict → List Signal
 signals_or d (refuses f) = d
 signals_or d (netlist ss) = ss
 
 refused_ongoing : {f : Refusal} {s : State} → refused f ≡ ongoing s → ⊥
-refused_ongoing e = false≢true (sym (ap is_refused e))
+refused_ongoing e = cc
 
 refuses_netlist : {f : Refusal} {ss : List Signal} → refuses f ≡ netlist ss → ⊥
-refuses_netlist e = false≢true (sym (ap refuses_all e))
+refuses_netlist e = cc
 
 -- ---- a line that is taken has no fault
 
@@ -74,15 +65,15 @@ module _ (P : List Piece → State → Type 0) (again : (past : List Piece) (lin
 
 -- ---- the end of the text
 
-all_driven_lem : (ps : List ℕ) (xs ss : List Signal) → all_driven ps xs ≡ netlist ss → (ps ≡ []) × (xs ≡ ss)
-all_driven_lem [] xs ss e = (refl, ap (signals_or xs) e)
-all_driven_lem (p ∷ ps) xs ss e = absurd (refuses_netlist e)
+all_driven_netlist : (ps : List ℕ) (xs ss : List Signal) → all_driven ps xs ≡ netlist ss → (ps ≡ []) × (xs ≡ ss)
+all_driven_netlist [] xs ss e = (refl, ap (signals_or xs) e)
+all_driven_netlist (p ∷ ps) xs ss e = absurd (refuses_netlist e)
 
 closing_netlist : (n : ℕ) (g : Stage) (xs ss : List Signal) → closing n g xs ≡ netlist ss → (undriven_at xs ≡ []) × (xs ≡ ss)
 closing_netlist n Before xs ss e = absurd (refuses_netlist e)
 closing_netlist n Body xs ss e = absurd (refuses_netlist e)
 closing_netlist n (Rows g) xs ss e = absurd (refuses_netlist e)
-closing_netlist n After xs ss e = all_driven_lem (undriven_at xs) xs ss e
+closing_netlist n After xs ss e = all_driven_netlist (undriven_at xs) xs ss e
 
 -- the state that the lines of an accepted text leave
 abbrev pub Left : List ℕ → List Signal → Type 0
@@ -103,6 +94,9 @@ accepted text ss e =
 
 -- ---- wires
 
+pin_count_is : (g : Gate) → length (take g.pin_count g.pins) ≡ g.pin_count
+pin_count_is g = length-take-le g.pin_count g.pins (omega (arith, g.few, g.wide))
+
 words_within : (s : State) (ws : List Piece) → Within s.signals → Within (words_effect s ws).signals
 words_within s [] x = x
 words_within s (w ∷ ws) x = effect_within s (statement_of (lexeme_of w) ws) x
@@ -116,11 +110,7 @@ accepted_within text ss e =
 -- ---- drivers
 
 pub cons_nil : {A : Type 0} {x : A} {xs : List A} → x ∷ xs ≡ [] → ⊥
-cons_nil {A} e = false≢true (ap (is_nil {A = A}) e)
-  where
-    is_nil : {A : Type 0} → List A → Bool
-    is_nil [] = true
-    is_nil (x ∷ xs) = false
+cons_nil e = cc
 
 none_here : (b : Bool) (s : Signal) (ss : List Signal) → map (λ (z : Signal). z.name.place) (cond b (s ∷ ss) ss) ≡ [] → (b ≡ false) × (map (λ (z : Signal). z.name.place) ss ≡ [])
 none_here true s ss e = absurd (cons_nil e)
@@ -145,7 +135,7 @@ module _ (text : List ℕ) (cs : List codes.Signal) where
       (subst (λ (m : ℕ). DriverWithin m (get_or (signals_on text cs) s no_signal).driver) n
       (All-get_or (λ (z : Signal). DriverWithin (length (signals_on text cs)) z.driver) (signals_on text cs) s no_signal (omega (arith, n)) x))
 
-  pins_within : (n k : ℕ) (d : code.Driver) → DriverWithin n (driver_on text d) → k < pin_count_lem d → signal_at_pin d k < n
+  pins_within : (n k : ℕ) (d : code.Driver) → DriverWithin n (driver_on text d) → k < number_of_pins d → signal_at_pin d k < n
   pins_within n k Undriven x h = absurd (omega arith)
   pins_within n k Input x h = absurd (omega arith)
   pins_within n k (Latched l) x h = absurd (omega arith)
@@ -164,7 +154,7 @@ module _ (text : List ℕ) (cs : List codes.Signal) where
 
   wired : Within (signals_on text cs) → Wired cs
   wired x s k h =
-      ⊎_elim (λ l. pins_within (length cs) k (At s) (driver_at s x l) h) (λ l. absurd (omega (arith, h, ap pin_count_lem (past_none s l)))) (cases_lt s (length cs))
+      ⊎_elim (λ l. pins_within (length cs) k (At s) (driver_at s x l) h) (λ l. absurd (omega (arith, h, ap number_of_pins (past_none s l)))) (cases_lt s (length cs))
 
   latches_wired : Within (signals_on text cs) → LatchesWired cs
   latches_wired x s k h =
@@ -173,7 +163,7 @@ module _ (text : List ℕ) (cs : List codes.Signal) where
   driven : undriven_at (signals_on text cs) ≡ [] → Driven cs
   driven e s h =
       let u = All-get_or (λ (z : Signal). is_undriven z.driver ≡ false) (signals_on text cs) s no_signal (omega (arith, length-map cs (signal_on text))) (none_undriven (signals_on text cs) e) in
-      not-false (is_driven_lem (At s)) (sym (undriven_is text (At s)) ∙ (ap (λ (z : Signal). is_undriven z.driver) (sym (get_or-map (signal_on text) cs s absent no_signal h)) ∙ u))
+      not-false (is_driven_of (At s)) (sym (undriven_is text (At s)) ∙ (ap (λ (z : Signal). is_undriven z.driver) (sym (get_or-map (signal_on text) cs s absent no_signal h)) ∙ u))
 
   pub accepted_driven : netlist (signals_on text cs) ≡ read text → Driven cs
   accepted_driven e = driven (accepted text (signals_on text cs) (sym e)).1.1.1

@@ -1,31 +1,27 @@
 -- The places of each cause rise, so the first fault of a line is the least. Assumes nothing.
-use Rattle.std.proofs.Common.{◌≡◌, ℕ, zero, suc, ◌+◌, ◌-◌, ◌<◌, ◌≤◌, Bool, true, false, cond, ◌&&◌, ◌||◌, ◌⊎◌, List, [], ◌∷◌, ◌++◌, map, length, drop, Some, filter, sym, refl, ap, ◌∙◌, subst, inl, inr, ⊎_elim, arith}
+use Rattle.std.proofs.Common.{◌≡◌, ℕ, zero, suc, ◌+◌, ◌-◌, ◌<◌, ◌≤◌, Bool, true, false, cond, ◌&&◌, ◌||◌, List, [], ◌∷◌, ◌++◌, map, length, drop, Some, filter, sym, refl, ap, ◌∙◌, subst, ⊎_elim, arith}
 use Rattle.std.specs.List.{AllByRecursion}
 use Rattle.std.proofs.ByRecursion.{All-append}
 use Rattle.std.proofs.lemmas.List.{append-nil, append_assoc, drop-drop, drop_at, drop-map}
-use Rattle.std.proofs.lemmas.Bool.{cases_lt, cond_both, cond-false, le-ltb, ne_eqb}
+use Rattle.std.proofs.lemmas.Bool.{cond_both, cond-false, le-ltb, ne_eqb}
 use Rattle.fault.specs.Causes.{number_of}
 use Rattle.fault.specs.declared.cause.Cause.{Cause}
 use Rattle.fault.specs.declared.cause.Cause.TheVariants.{BadByte, BadLine, LongName, TooManyPins, TooManySignals, BadRow, SecondDriver}
 use Rattle.fault.specs.declared.refusal.Refusal.{Refusal}
 use Rattle.network.specs.Limit.{max_signals}
-use Rattle.text.specs.Text.{Piece, solid, blank, solid_first, begun, words, bad, bad_places}
+use Rattle.text.specs.Text.{Piece, words, bad, bad_places}
 use Rattle.text.specs.Words.{Lexeme, keyword, unknown, plain, lexeme_of, one_of, is_long, places_of, long_names}
 use Rattle.text.specs.declared.word.Command.{Command}
 use Rattle.text.specs.declared.word.Command.TheVariants.{Model, Inputs, Outputs, Names, Latch, End}
 use Rattle.netlist.specs.Outcomes.{first_of}
-use Rattle.netlist.specs.Faults.{State, fault, only_if, outside, many_pins, too_many, wrong_row, has_driver_lem, driven_twice, rule_faults, word_faults, faults_of, number_of_fault, precedes, least, least_of}
-use Rattle.netlist.specs.Signals as signals
-use Rattle.netlist.specs.Signals.{Signal, mention, mention_all_lem, fresh}
-use Rattle.netlist.specs.Statements.{Statement, latch, wrong, last_of, front_of, model_of, gate_of, latch_rest_lem, latch_of, end_of, command_of, statement_of, mentions_of, drives_of, names_of}
-use Rattle.netlist.proofs.Mentions.{mention_old, mention_new, Place}
+use Rattle.netlist.specs.Faults.{State, fault, only_if, outside, many_pins, too_many, wrong_row, has_driver, driven_twice, rule_faults, word_faults, faults_of, number_of_fault, precedes, least, least_of}
+use Rattle.netlist.specs.Signals.{Signal, mention, mention_all, fresh}
+use Rattle.netlist.specs.Statements.{Statement, latch, wrong, last_of, front_of, model_of, gate_of, latch_rest, latch_of, end_of, command_of, statement_of, mentions_of, drives_of, names_of}
+use Rattle.netlist.proofs.Climbing.{Asc, climb_asc, words_climb}
+use Rattle.netlist.proofs.Mentions.{mention_ways, Place}
 use Rattle.netlist.proofs.Shapes.{front_last}
 
 -- ---- rising places
-
-abbrev Asc : ℕ → List ℕ → Type 0
-Asc lo [] = Unit {0}
-Asc lo (p ∷ ps) = (lo ≤ p) × Asc (suc p) ps
 
 asc_low : (a b : ℕ) (ps : List ℕ) → a ≤ b → Asc b ps → Asc a ps
 asc_low a b [] h x = tt
@@ -60,13 +56,10 @@ long_asc lo (w ∷ ws) x = long_cond (is_long w) lo w (filter is_long ws) x.0 (l
 
 twice_asc : (ss : List Signal) (done : List (List ℕ)) (lo : ℕ) (ws : List Piece) → Asc lo (places_of ws) → Asc lo (driven_twice ss done ws)
 twice_asc ss done lo [] x = tt
-twice_asc ss done lo (w ∷ ws) x = asc_cond (has_driver_lem ss w.bytes || one_of done w.bytes) lo w.place (driven_twice ss (done ++ w.bytes ∷ []) ws) x.0 (twice_asc ss (done ++ w.bytes ∷ []) (suc w.place) ws x.1)
-
-pub mention_ways : (ss : List Signal) (w : Piece) → (mention ss w ≡ ss) ⊎ (mention ss w ≡ ss ++ fresh w ∷ [])
-mention_ways ss w = ⊎_elim (λ l. inl (sym (mention_old ss w l))) (λ l. inr (mention_new ss w l)) (cases_lt (signals.number_of ss w.bytes) (length ss))
+twice_asc ss done lo (w ∷ ws) x = asc_cond (has_driver ss w.bytes || one_of done w.bytes) lo w.place (driven_twice ss (done ++ w.bytes ∷ []) ws) x.0 (twice_asc ss (done ++ w.bytes ∷ []) (suc w.place) ws x.1)
 
 abbrev New : List Signal → List Piece → ℕ → Type 0
-New ss ws lo = (new : List Signal) × ((mention_all_lem ss ws ≡ ss ++ new) × Asc lo (map Place new))
+New ss ws lo = (new : List Signal) × ((mention_all ss ws ≡ ss ++ new) × Asc lo (map Place new))
 
 new_asc : (ws : List Piece) (ss : List Signal) (lo : ℕ) → Asc lo (places_of ws) → New ss ws lo
 new_asc [] ss lo x = ([], (sym (append-nil ss), tt))
@@ -84,25 +77,16 @@ drop_both n xs ys h =
     ap (λ (k : ℕ). drop k (xs ++ ys)) q
     ∙ (sym (drop-drop (n - length xs) (length xs) (xs ++ ys)) ∙ ap (drop (n - length xs)) (drop_at xs ys (length xs) refl))
 
-many_asc : (ss : List Signal) (lo : ℕ) (ws : List Piece) → length ss ≤ max_signals → Asc lo (places_of ws) → Asc lo (too_many (mention_all_lem ss ws))
+many_asc : (ss : List Signal) (lo : ℕ) (ws : List Piece) → length ss ≤ max_signals → Asc lo (places_of ws) → Asc lo (too_many (mention_all ss ws))
 many_asc ss lo ws h x =
     let r = new_asc ws ss lo x in
-    let e : too_many (mention_all_lem ss ws) ≡ drop (max_signals - length ss) (map Place r.0) = ap too_many r.1.0 ∙ (ap (map Place) (drop_both max_signals ss r.0 h) ∙ sym (drop-map Place (max_signals - length ss) r.0)) in
+    let e : too_many (mention_all ss ws) ≡ drop (max_signals - length ss) (map Place r.0) = ap too_many r.1.0 ∙ (ap (map Place) (drop_both max_signals ss r.0 h) ∙ sym (drop-map Place (max_signals - length ss) r.0)) in
     subst (Asc lo) (sym e) (asc_drop (max_signals - length ss) lo (map Place r.0) r.1.1)
 
 -- ---- words, and the names among them
 
-begun_asc : (at b : ℕ) (t : Bool) (ws : List Piece) → Asc (suc at) (places_of ws) → Asc at (places_of (begun at b t ws))
-begun_asc at b true [] x = (omega arith, tt)
-begun_asc at b true (w ∷ ws) x = let q = x.0 in (omega arith, asc_low (suc at) (suc w.place) (places_of ws) (omega (arith, q)) x.1)
-begun_asc at b false ws x = (omega arith, x)
-
 words_asc : (at : ℕ) (xs : List ℕ) → Asc at (places_of (words at xs))
-words_asc at [] = tt
-words_asc at (b ∷ bs) =
-    let rest = words_asc (suc at) bs in
-    cond_both (solid b) _ _ (λ (ws : List Piece). Asc at (places_of ws)) (λ _. begun_asc at b (solid_first bs) (words (suc at) bs) rest)
-    (λ _. cond_both (blank b) (words (suc at) bs) [] (λ (ws : List Piece). Asc at (places_of ws)) (λ _. asc_low at (suc at) (places_of (words (suc at) bs)) (omega arith) rest) (λ _. tt))
+words_asc at xs = climb_asc at (at + length xs) (places_of (words at xs)) (words_climb at xs)
 
 -- the names, the mentions and the drives of a statement stand in rising places
 abbrev Rising : ℕ → Statement → Type 0
@@ -126,7 +110,7 @@ latch_asc lo (d ∷ q ∷ ws) x =
     let a = x.0 in
     let b = x.1.0 in
     let out : lo ≤ q.place = omega (arith, a, b) in
-    cond_both (latch_rest_lem ws) (latch d q ws) wrong (Rising lo) (λ _. (two, (two, (out, tt)))) (λ _. (tt, (tt, tt)))
+    cond_both (latch_rest ws) (latch d q ws) wrong (Rising lo) (λ _. (two, (two, (out, tt)))) (λ _. (tt, (tt, tt)))
 
 model_asc : (lo : ℕ) (ws : List Piece) → Asc lo (places_of ws) → Rising lo (model_of ws)
 model_asc lo [] x = (tt, (tt, tt))
@@ -247,11 +231,11 @@ module _ (p3 p4 p5 p6 p7 p8 : List ℕ) where
       (group BadRow 0 p7 F8 a7 (above8 7 (omega arith)) (last_group SecondDriver lo p8 a8)))))
 
 rule_above : (s : State) (at : ℕ) (st : Statement) → AllByRecursion (Above 2) (rule_faults s at st)
-rule_above s at st = above3 (only_if (outside s.stage st) at) (long_names (names_of st)) (only_if (many_pins st) at) (too_many (mention_all_lem s.signals (mentions_of st))) (only_if (wrong_row s st) at) (driven_twice s.signals [] (drives_of st)) 2 (omega arith)
+rule_above s at st = above3 (only_if (outside s.stage st) at) (long_names (names_of st)) (only_if (many_pins st) at) (too_many (mention_all s.signals (mentions_of st))) (only_if (wrong_row s st) at) (driven_twice s.signals [] (drives_of st)) 2 (omega arith)
 
 rule_least : (s : State) (at : ℕ) (st : Statement) (lo : ℕ) → length s.signals ≤ max_signals → Rising lo st → FirstLeast (rule_faults s at st)
 rule_least s at st lo h x =
-    six (only_if (outside s.stage st) at) (long_names (names_of st)) (only_if (many_pins st) at) (too_many (mention_all_lem s.signals (mentions_of st))) (only_if (wrong_row s st) at) (driven_twice s.signals [] (drives_of st)) lo
+    six (only_if (outside s.stage st) at) (long_names (names_of st)) (only_if (many_pins st) at) (too_many (mention_all s.signals (mentions_of st))) (only_if (wrong_row s st) at) (driven_twice s.signals [] (drives_of st)) lo
     (only_asc (outside s.stage st) at) (long_asc lo (names_of st) x.0) (only_asc (many_pins st) at)
     (many_asc s.signals lo (mentions_of st) h x.1.0) (only_asc (wrong_row s st) at) (twice_asc s.signals [] lo (drives_of st) x.1.1)
 

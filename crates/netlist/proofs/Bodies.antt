@@ -1,33 +1,33 @@
 -- Lines that name signals, judged fault by fault. Assumes nothing.
-use Rattle.std.proofs.Common.{◌≡◌, ℕ, Bool, true, false, cond, not, ◌||◌, List, [], ◌∷◌, ◌++◌, map, is_err, IsErrAnd, Some, None, Option, Result, sym, refl, ap, ◌∙◌}
+use Rattle.std.proofs.Common.{◌≡◌, ℕ, Bool, true, cond, not, ◌||◌, List, [], ◌∷◌, ◌++◌, map, is_err, IsErrAnd, Some, None, Option, Result, refl, ap, ◌∙◌}
 use Rattle.std.proofs.lemmas.List.{append_assoc}
 use Rattle.fault.specs.declared.cause.Cause.TheVariants.{BadLine, LongName, TooManyPins, TooManySignals, SecondDriver}
 use Rattle.fault.specs.declared.refusal.Refusal.{Refusal}
 use Rattle.text.specs.Text.{Piece}
 use Rattle.text.specs.Words.{one_of, long_names}
 use Rattle.netlist.specs.declared.netlist_fault.NetlistFault.{NetlistFault}
-use Rattle.netlist.specs.declared.stage.Stage.{Stage}
-use Rattle.netlist.specs.Signals.{Signal, is_undriven, mention_all_lem}
-use Rattle.netlist.specs.Faults.{State, fault, only_if, in_body, has_dotted_lem, too_many, has_driver_lem, driven_twice}
+use Rattle.netlist.specs.declared.state.State as code
+use Rattle.netlist.specs.Signals.{Signal, is_undriven, mention_all}
+use Rattle.netlist.specs.Faults.{State, fault, only_if, in_body, has_dotted, too_many, has_driver, driven_twice}
 use Rattle.netlist.specs.Reading.{refused, ongoing, judged}
 use Rattle.netlist.specs.Outcomes.{first_of, refusal_of, reading_on, name_faults}
 use Rattle.netlist.proofs.Firsts.{err_is, first_on, first_stops}
 use Rattle.netlist.proofs.Looking.{mentions_look}
 
 -- a refusal that `?` carried on
-pub carried : (ss : List Signal) (r : Result Stage NetlistFault) (f : NetlistFault) → is_err r ≡ true → IsErrAnd r (λ e. e ≡ f) → reading_on ss r ≡ refused (refusal_of f)
-carried ss r f e b = ap (reading_on ss) (err_is r f e b)
+pub carried : (t : List ℕ) (s : code.State) (r : Result (Unit {0}) NetlistFault) (f : NetlistFault) → is_err r ≡ true → IsErrAnd r (λ e. e ≡ f) → reading_on t s r ≡ refused (refusal_of f)
+carried t s r f e b = ap (reading_on t s) (err_is r f e b)
 
 -- ---- a mention gives no driver
 
-mentions_driver : (ws : List Piece) (ss : List Signal) (n : List ℕ) → has_driver_lem (mention_all_lem ss ws) n ≡ has_driver_lem ss n
+mentions_driver : (ws : List Piece) (ss : List Signal) (n : List ℕ) → has_driver (mention_all ss ws) n ≡ has_driver ss n
 mentions_driver = mentions_look (λ (s : Signal). not (is_undriven s.driver)) (λ w. refl)
 
-twice_same : (xs ys : List Signal) → ((n : List ℕ) → has_driver_lem xs n ≡ has_driver_lem ys n) → (done : List (List ℕ)) (ws : List Piece) → driven_twice xs done ws ≡ driven_twice ys done ws
+twice_same : (xs ys : List Signal) → ((n : List ℕ) → has_driver xs n ≡ has_driver ys n) → (done : List (List ℕ)) (ws : List Piece) → driven_twice xs done ws ≡ driven_twice ys done ws
 twice_same xs ys h done [] = refl
 twice_same xs ys h done (w ∷ ws) =
     ap (λ (b : Bool). cond (b || one_of done w.bytes) (w.place ∷ driven_twice xs (done ++ w.bytes ∷ []) ws) (driven_twice xs (done ++ w.bytes ∷ []) ws)) (h w.bytes)
-    ∙ ap (λ (ps : List ℕ). cond (has_driver_lem ys w.bytes || one_of done w.bytes) (w.place ∷ ps) ps) (twice_same xs ys h (done ++ w.bytes ∷ []) ws)
+    ∙ ap (λ (ps : List ℕ). cond (has_driver ys w.bytes || one_of done w.bytes) (w.place ∷ ps) ps) (twice_same xs ys h (done ++ w.bytes ∷ []) ws)
 
 -- ---- the faults: `ms` are the mentions, `ds` the words that drive
 
@@ -36,7 +36,7 @@ Twice ss ds = map (fault SecondDriver) (driven_twice ss [] ds)
 
 module _ (s : State) (at : ℕ) (ms : List Piece) (many : Bool) (ds : List Piece) (after : State) where
   abbrev A : List Refusal
-  A = map (fault BadLine) (only_if (not (in_body s.stage) || has_dotted_lem ms) at)
+  A = map (fault BadLine) (only_if (not (in_body s.stage) || has_dotted ms) at)
 
   abbrev B : List Refusal
   B = map (fault LongName) (long_names ms)
@@ -45,7 +45,7 @@ module _ (s : State) (at : ℕ) (ms : List Piece) (many : Bool) (ds : List Piece
   C = map (fault TooManyPins) (only_if many at)
 
   abbrev D : List Refusal
-  D = map (fault TooManySignals) (too_many (mention_all_lem s.signals ms))
+  D = map (fault TooManySignals) (too_many (mention_all s.signals ms))
 
   abbrev All : List Refusal
   All = A ++ (B ++ (C ++ (D ++ Twice s.signals ds)))
@@ -58,12 +58,12 @@ module _ (s : State) (at : ℕ) (ms : List Piece) (many : Bool) (ds : List Piece
   pub stop_names : (f : Refusal) → Some f ≡ first_of (name_faults s at ms many) → refused f ≡ judged (first_of All) after
   stop_names f e = ap (λ (o : Option Refusal). judged o after) (first_stops (name_faults s at ms many) (Twice s.signals ds) e ∙ ap first_of (regroup (Twice s.signals ds)))
 
-  module _ (none : None ≡ first_of (name_faults s at ms many)) (now : List Signal) (is : now ≡ mention_all_lem s.signals ms) where
+  module _ (none : None ≡ first_of (name_faults s at ms many)) (now : List Signal) (is : now ≡ mention_all s.signals ms) where
     past_names : {r : Option Refusal} → r ≡ first_of (Twice now ds) → r ≡ first_of All
     past_names e =
         first_on (name_faults s at ms many) (Twice s.signals ds) none
         (e ∙ (ap (λ (xs : List Signal). first_of (Twice xs ds)) is
-        ∙ ap (λ (ps : List ℕ). first_of (map (fault SecondDriver) ps)) (twice_same (mention_all_lem s.signals ms) s.signals (mentions_driver ms s.signals) [] ds)))
+        ∙ ap (λ (ps : List ℕ). first_of (map (fault SecondDriver) ps)) (twice_same (mention_all s.signals ms) s.signals (mentions_driver ms s.signals) [] ds)))
         ∙ ap first_of (regroup (Twice s.signals ds))
 
     pub stop_twice : (f : Refusal) → Some f ≡ first_of (Twice now ds) → refused f ≡ judged (first_of All) after
@@ -71,24 +71,3 @@ module _ (s : State) (at : ℕ) (ms : List Piece) (many : Bool) (ds : List Piece
 
     pub no_fault : (last : State) → None ≡ first_of (Twice now ds) → last ≡ after → ongoing last ≡ judged (first_of All) after
     no_fault last e q = ap ongoing q ∙ ap (λ (o : Option Refusal). judged o after) (past_names e)
-
--- ---- the faults up to a second driver, one by one
-
-module _ (s : State) (at : ℕ) (ms : List Piece) (many : Bool) (inside : true ≡ in_body s.stage) (plain : false ≡ has_dotted_lem ms) where
-  placed : None ≡ first_of (map (fault BadLine) (only_if (not (in_body s.stage) || has_dotted_lem ms) at))
-  placed =
-      ap (λ (b : Bool). first_of (map (fault BadLine) (only_if (not true || b) at))) plain
-      ∙ ap (λ (b : Bool). first_of (map (fault BadLine) (only_if (not b || has_dotted_lem ms) at))) inside
-
-  pub admit_long : (f : Refusal) → Some f ≡ first_of (map (fault LongName) (long_names ms)) → Some f ≡ first_of (name_faults s at ms many)
-  admit_long f e = first_on (map (fault BadLine) (only_if (not (in_body s.stage) || has_dotted_lem ms) at)) _ placed (first_stops (map (fault LongName) (long_names ms)) _ e)
-
-  module _ (short : None ≡ first_of (map (fault LongName) (long_names ms))) where
-    past_long : {r : Option Refusal} → r ≡ first_of (map (fault TooManyPins) (only_if many at) ++ map (fault TooManySignals) (too_many (mention_all_lem s.signals ms))) → r ≡ first_of (name_faults s at ms many)
-    past_long e = first_on (map (fault BadLine) (only_if (not (in_body s.stage) || has_dotted_lem ms) at)) _ placed (first_on (map (fault LongName) (long_names ms)) _ short e)
-
-    pub admit_pins : many ≡ true → Some (fault TooManyPins at) ≡ first_of (name_faults s at ms many)
-    admit_pins e = past_long (ap (λ (b : Bool). first_of (map (fault TooManyPins) (only_if b at) ++ map (fault TooManySignals) (too_many (mention_all_lem s.signals ms)))) (sym e))
-
-    pub admit_many : {r : Option Refusal} → many ≡ false → r ≡ first_of (map (fault TooManySignals) (too_many (mention_all_lem s.signals ms))) → r ≡ first_of (name_faults s at ms many)
-    admit_many e q = past_long (q ∙ ap (λ (b : Bool). first_of (map (fault TooManyPins) (only_if b at) ++ map (fault TooManySignals) (too_many (mention_all_lem s.signals ms)))) (sym e))

@@ -10,8 +10,8 @@ use Rattle.netlist.specs.Outcomes.{first_of, name_faults, first_judged}
 use Rattle.netlist.specs.Effects.{state, effect}
 use Rattle.netlist.specs.Faults.{State}
 use Rattle.netlist.specs.Reading.{refused, ongoing}
-use Rattle.netlist.specs.Signals.{Signal, gates, latched, driven, as_captured, number_of, numbers, mention_all_lem, on_named}
-use Rattle.netlist.specs.Statements.{gate, latch, gate_of, latch_rest_lem, latch_of}
+use Rattle.netlist.specs.Signals.{Signal, gates, latched, driven, as_captured, number_of, numbers, mention_all, on_named}
+use Rattle.netlist.specs.Statements.{gate, latch, gate_of, latch_rest, latch_of}
 use Rattle.netlist.specs.Views.{piece_on, pieces}
 use Rattle.netlist.proofs.Bodies.{Twice, stop_names, stop_twice, no_fault}
 use Rattle.netlist.proofs.Shapes.{gate_is, gate_names, latch_yes, latch_names}
@@ -39,9 +39,9 @@ module _ (t : List ℕ) (s : State) (at : ℕ) (xs ps : List Span) (d : Span) (h
   pub gate_stops : (f : Refusal) → Some f ≡ first_of (name_faults s at (pieces t xs) (ltb 4 (length ps))) → refused f ≡ first_judged s at (gate_of (pieces t xs))
   gate_stops f q = stop_names s at (Pins ++ Output ∷ []) Many (Output ∷ []) (effect s (gate Pins Output)) f (q ∙ same_faults) ∙ same_statement
 
-  module _ (none : None ≡ first_of (name_faults s at (pieces t xs) (ltb 4 (length ps)))) (now : List Signal) (is : now ≡ mention_all_lem s.signals (pieces t xs)) where
-    mentioned : now ≡ mention_all_lem s.signals (Pins ++ Output ∷ [])
-    mentioned = is ∙ ap (mention_all_lem s.signals) (gate_names t xs ps d h e)
+  module _ (none : None ≡ first_of (name_faults s at (pieces t xs) (ltb 4 (length ps)))) (now : List Signal) (is : now ≡ mention_all s.signals (pieces t xs)) where
+    mentioned : now ≡ mention_all s.signals (Pins ++ Output ∷ [])
+    mentioned = is ∙ ap (mention_all s.signals) (gate_names t xs ps d h e)
 
     pub gate_twice : (f : Refusal) → Some f ≡ first_of (Twice now (Output ∷ [])) → refused f ≡ first_judged s at (gate_of (pieces t xs))
     gate_twice f q = stop_twice s at (Pins ++ Output ∷ []) Many (Output ∷ []) (effect s (gate Pins Output)) (none ∙ same_faults) now mentioned f q ∙ same_statement
@@ -56,7 +56,7 @@ module _ (t : List ℕ) (s : State) (at : ℕ) (xs ps : List Span) (d : Span) (h
 
 -- ---- a latch with the words ws after its output
 
-module _ (t : List ℕ) (s : State) (at : ℕ) (xs ws : List Span) (d : Span) (h : 2 ≤ length xs) (e : ws ≡ drop 2 xs) (rest : true ≡ latch_rest_lem (pieces t ws)) where
+module _ (t : List ℕ) (s : State) (at : ℕ) (xs ws : List Span) (d : Span) (h : 2 ≤ length xs) (e : ws ≡ drop 2 xs) (rest : true ≡ latch_rest (pieces t ws)) where
   abbrev In : Piece
   In = piece_on t (get_or xs 0 d)
 
@@ -73,9 +73,9 @@ module _ (t : List ℕ) (s : State) (at : ℕ) (xs ws : List Span) (d : Span) (h
     pub latch_stops : (f : Refusal) → Some f ≡ first_of (name_faults s at (pieces t ys) false) → refused f ≡ first_judged s at (latch_of (pieces t xs))
     latch_stops f q = stop_names s at (In ∷ Out ∷ []) false (Out ∷ []) (effect s (latch In Out (pieces t ws))) f (q ∙ same_names ys two) ∙ same_latch
 
-    module _ (none : None ≡ first_of (name_faults s at (pieces t ys) false)) (now : List Signal) (is : now ≡ mention_all_lem s.signals (pieces t ys)) where
-      both : now ≡ mention_all_lem s.signals (In ∷ Out ∷ [])
-      both = is ∙ ap (mention_all_lem s.signals) (ap (pieces t) two ∙ latch_names t xs d h)
+    module _ (none : None ≡ first_of (name_faults s at (pieces t ys) false)) (now : List Signal) (is : now ≡ mention_all s.signals (pieces t ys)) where
+      both : now ≡ mention_all s.signals (In ∷ Out ∷ [])
+      both = is ∙ ap (mention_all s.signals) (ap (pieces t) two ∙ latch_names t xs d h)
 
       pub latch_twice : (f : Refusal) → Some f ≡ first_of (Twice now (Out ∷ [])) → refused f ≡ first_judged s at (latch_of (pieces t xs))
       latch_twice f q = stop_twice s at (In ∷ Out ∷ []) false (Out ∷ []) (effect s (latch In Out (pieces t ws))) (none ∙ same_names ys two) now both f q ∙ same_latch

@@ -2,58 +2,40 @@
 use Rattle.std.proofs.Common.{◌≡◌, ℕ, Bool, true, false, not, ◌||◌, List, [], ◌∷◌, ◌++◌, get_or, Some, None, Option, sym, refl, ap, ◌∙◌, arith, length-set}
 use Rattle.std.specs.List.{list_any, flat_map}
 use Rattle.std.proofs.ByRecursion.{All-weaker}
+use Rattle.std.proofs.Math.Bool.{or_assoc, or_comm, or-false}
 use Rattle.std.proofs.lemmas.List.{flat_map_more}
 use Rattle.rows.specs.Rows.{Row}
 use Rattle.text.specs.Text.{Piece, words, lines}
 use Rattle.text.specs.Words.{lexeme_of}
 use Rattle.netlist.specs.declared.stage.Stage.{Stage}
 use Rattle.netlist.specs.declared.stage.Stage.TheVariants.{Before, Body, Rows, After}
-use Rattle.netlist.specs.Effects.{state, rowed, add_row_lem, row_at, row_done, effect, words_effect}
+use Rattle.netlist.specs.Effects.{state, rowed, add_row, row_at, row_done, effect, words_effect}
 use Rattle.netlist.specs.Faults.{State}
 use Rattle.netlist.specs.Laws.{outputs_of, data_of, part_of, words_in, named, Accepted}
 use Rattle.netlist.specs.Reading.{step, ongoing}
-use Rattle.netlist.specs.Signals.{Signal, Driver, undriven, input, latched, gates, is_undriven, number_of, mention_all_lem, changed, on_named, on_each, no_signal, driven, as_output, as_captured, numbers}
+use Rattle.netlist.specs.Signals.{Signal, Driver, undriven, input, latched, gates, is_undriven, number_of, Known, Mentioned, mention_all, changed, on_named, on_each, no_signal, driven, as_output, as_captured, numbers}
 use Rattle.netlist.specs.Statements.{Statement, model, inputs, outputs, gate, latch, row, ending, wrong, statement_of, mentions_of, drives_of}
 use Rattle.netlist.proofs.Accepting.{step_ongoing, all_lines, accepted}
 use Rattle.netlist.proofs.Looking.{look, mentions_look, look_kept, each_kept, look_set, number_kept}
-use Rattle.netlist.proofs.Within.{Known, Mentioned, mentioned_all, mentioned_parts}
+use Rattle.netlist.proofs.Within.{mentioned_all, mentioned_parts}
 
 -- ---- tests
 
-abbrev pub is_driven_lem : Signal → Bool
-is_driven_lem s = not (is_undriven s.driver)
+abbrev pub is_driven : Signal → Bool
+is_driven s = not (is_undriven s.driver)
 
-abbrev is_output_lem : Signal → Bool
-is_output_lem s = s.output
+abbrev is_output : Signal → Bool
+is_output s = s.output
 
-abbrev is_captured_lem : Signal → Bool
-is_captured_lem s = s.captured
-
-or_false : (a : Bool) → (a || false) ≡ a
-or_false true = refl
-or_false false = refl
-
-or_comm : (a b : Bool) → (a || b) ≡ (b || a)
-or_comm true b = or_true b
-  where
-    or_true : (x : Bool) → true ≡ (x || true)
-    or_true true = refl
-    or_true false = refl
-or_comm false b = sym (or_false b)
+abbrev is_captured : Signal → Bool
+is_captured s = s.captured
 
 or_swap : (a b c : Bool) → (a || (b || c)) ≡ ((b || a) || c)
-or_swap true true c = refl
-or_swap true false c = refl
-or_swap false true c = refl
-or_swap false false c = refl
+or_swap a b c = sym (or_assoc a b c) ∙ ap (λ (x : Bool). x || c) (or_comm a b)
 
 pub any_append : {A : Type 0} (p : A → Bool) (xs ys : List A) → list_any p (xs ++ ys) ≡ (list_any p xs || list_any p ys)
 any_append p [] ys = refl
-any_append p (x ∷ xs) ys = ap (λ (b : Bool). p x || b) (any_append p xs ys) ∙ or_assoc (p x) (list_any p xs) (list_any p ys)
-  where
-    or_assoc : (a b c : Bool) → (a || (b || c)) ≡ ((a || b) || c)
-    or_assoc true b c = refl
-    or_assoc false b c = refl
+any_append p (x ∷ xs) ys = ap (λ (b : Bool). p x || b) (any_append p xs ys) ∙ sym (or_assoc (p x) (list_any p xs) (list_any p ys))
 
 -- ---- each name of a line set
 
@@ -68,7 +50,7 @@ module _ (f : Signal → Bool) (g : Signal → Signal) (names : (s : Signal) →
       ∙ (ap (λ (b : Bool). list_any (named n) ws || b) (look_set f g names holds w.bytes ss n m.0) ∙ or_swap (list_any (named n) ws) (named n w) (look f ss n))
 
   one_set : (w : Piece) (ss : List Signal) (n : List ℕ) → Known ss w.bytes → look f (on_named g ss w) n ≡ (list_any (named n) (w ∷ []) || look f ss n)
-  one_set w ss n h = look_set f g names holds w.bytes ss n h ∙ ap (λ (b : Bool). b || look f ss n) (sym (or_false (named n w)))
+  one_set w ss n h = look_set f g names holds w.bytes ss n h ∙ ap (λ (b : Bool). b || look f ss n) (sym (or-false (named n w)))
 
 -- ---- rows change none of it
 
@@ -78,13 +60,13 @@ rowed_driven input r = refl
 rowed_driven (latched d ws) r = refl
 rowed_driven (gates ps c) r = refl
 
-row_kept : (f : Signal → Bool) → ((r : Row) (s : Signal) → f (add_row_lem r s) ≡ f s) → (g : Stage) (ss : List Signal) (r : Row) (n : List ℕ) → look f (row_at g ss r) n ≡ look f ss n
+row_kept : (f : Signal → Bool) → ((r : Row) (s : Signal) → f (add_row r s) ≡ f s) → (g : Stage) (ss : List Signal) (r : Row) (n : List ℕ) → look f (row_at g ss r) n ≡ look f ss n
 row_kept f h Before ss r n = refl
 row_kept f h Body ss r n = refl
-row_kept f h (Rows k) ss r n = look_kept f (add_row_lem r) (λ z. refl) (h r) ss k n
+row_kept f h (Rows k) ss r n = look_kept f (add_row r) (λ z. refl) (h r) ss k n
 row_kept f h After ss r n = refl
 
-rows_kept : (f : Signal → Bool) → ((r : Row) (s : Signal) → f (add_row_lem r s) ≡ f s) → (g : Stage) (ss : List Signal) (r : Option Row) (n : List ℕ) → look f (row_done g ss r) n ≡ look f ss n
+rows_kept : (f : Signal → Bool) → ((r : Row) (s : Signal) → f (add_row r s) ≡ f s) → (g : Stage) (ss : List Signal) (r : Option Row) (n : List ℕ) → look f (row_done g ss r) n ≡ look f ss n
 rows_kept f h g ss None n = refl
 rows_kept f h g ss (Some r) n = row_kept f h g ss r n
 
@@ -95,65 +77,65 @@ Turns f part = (s : State) (st : Statement) (n : List ℕ) → look f (effect s 
 
 module _ (s : State) (n : List ℕ) where
   abbrev Now : Statement → List Signal
-  Now st = mention_all_lem s.signals (mentions_of st)
+  Now st = mention_all s.signals (mentions_of st)
 
   known : (st : Statement) → Mentioned (Now st) (mentions_of st)
   known st = mentioned_all (mentions_of st) s.signals
 
-  old_driven : (st : Statement) → look is_driven_lem (Now st) n ≡ look is_driven_lem s.signals n
-  old_driven st = mentions_look is_driven_lem (λ w. refl) (mentions_of st) s.signals n
+  old_driven : (st : Statement) → look is_driven (Now st) n ≡ look is_driven s.signals n
+  old_driven st = mentions_look is_driven (λ w. refl) (mentions_of st) s.signals n
 
-  old_output : (st : Statement) → look is_output_lem (Now st) n ≡ look is_output_lem s.signals n
-  old_output st = mentions_look is_output_lem (λ w. refl) (mentions_of st) s.signals n
+  old_output : (st : Statement) → look is_output (Now st) n ≡ look is_output s.signals n
+  old_output st = mentions_look is_output (λ w. refl) (mentions_of st) s.signals n
 
-  old_captured : (st : Statement) → look is_captured_lem (Now st) n ≡ look is_captured_lem s.signals n
-  old_captured st = mentions_look is_captured_lem (λ w. refl) (mentions_of st) s.signals n
+  old_captured : (st : Statement) → look is_captured (Now st) n ≡ look is_captured s.signals n
+  old_captured st = mentions_look is_captured (λ w. refl) (mentions_of st) s.signals n
 
   after : (f : Signal → Bool) (ws : List Piece) (st : Statement) → look f (Now st) n ≡ look f s.signals n → (list_any (named n) ws || look f (Now st) n) ≡ (list_any (named n) ws || look f s.signals n)
   after f ws st e = ap (λ (b : Bool). list_any (named n) ws || b) e
 
-pub driven_turns : Turns is_driven_lem drives_of
+pub driven_turns : Turns is_driven drives_of
 driven_turns s (model m) n = refl
-driven_turns s (inputs ns) n = each_set is_driven_lem (driven input) (λ z. refl) (λ z. refl) ns (Now s n (inputs ns)) n (known s n (inputs ns)) ∙ after s n is_driven_lem ns (inputs ns) (old_driven s n (inputs ns))
-driven_turns s (outputs ns) n = each_kept is_driven_lem as_output (λ z. refl) (λ z. refl) ns (Now s n (outputs ns)) n ∙ old_driven s n (outputs ns)
+driven_turns s (inputs ns) n = each_set is_driven (driven input) (λ z. refl) (λ z. refl) ns (Now s n (inputs ns)) n (known s n (inputs ns)) ∙ after s n is_driven ns (inputs ns) (old_driven s n (inputs ns))
+driven_turns s (outputs ns) n = each_kept is_driven as_output (λ z. refl) (λ z. refl) ns (Now s n (outputs ns)) n ∙ old_driven s n (outputs ns)
 driven_turns s (gate ps q) n =
-    one_set is_driven_lem (driven (gates (numbers (Now s n (gate ps q)) ps) _)) (λ z. refl) (λ z. refl) q (Now s n (gate ps q)) n (mentioned_parts (Now s n (gate ps q)) ps (q ∷ []) (known s n (gate ps q))).1.0
-    ∙ after s n is_driven_lem (q ∷ []) (gate ps q) (old_driven s n (gate ps q))
+    one_set is_driven (driven (gates (numbers (Now s n (gate ps q)) ps) _)) (λ z. refl) (λ z. refl) q (Now s n (gate ps q)) n (mentioned_parts (Now s n (gate ps q)) ps (q ∷ []) (known s n (gate ps q))).1.0
+    ∙ after s n is_driven (q ∷ []) (gate ps q) (old_driven s n (gate ps q))
 driven_turns s (latch d q ws) n =
     let now = Now s n (latch d q ws) in
     let mid = on_named (driven (latched (number_of now d.bytes) ws)) now q in
-    look_kept is_driven_lem as_captured (λ z. refl) (λ z. refl) mid (number_of mid d.bytes) n
-    ∙ (one_set is_driven_lem (driven (latched (number_of now d.bytes) ws)) (λ z. refl) (λ z. refl) q now n (known s n (latch d q ws)).1.0 ∙ after s n is_driven_lem (q ∷ []) (latch d q ws) (old_driven s n (latch d q ws)))
-driven_turns s (row r) n = rows_kept is_driven_lem (λ x z. ap not (rowed_driven z.driver x)) s.stage s.signals r n
+    look_kept is_driven as_captured (λ z. refl) (λ z. refl) mid (number_of mid d.bytes) n
+    ∙ (one_set is_driven (driven (latched (number_of now d.bytes) ws)) (λ z. refl) (λ z. refl) q now n (known s n (latch d q ws)).1.0 ∙ after s n is_driven (q ∷ []) (latch d q ws) (old_driven s n (latch d q ws)))
+driven_turns s (row r) n = rows_kept is_driven (λ x z. ap not (rowed_driven z.driver x)) s.stage s.signals r n
 driven_turns s ending n = refl
 driven_turns s wrong n = refl
 
-output_turns : Turns is_output_lem outputs_of
+output_turns : Turns is_output outputs_of
 output_turns s (model m) n = refl
-output_turns s (inputs ns) n = each_kept is_output_lem (driven input) (λ z. refl) (λ z. refl) ns (Now s n (inputs ns)) n ∙ old_output s n (inputs ns)
-output_turns s (outputs ns) n = each_set is_output_lem as_output (λ z. refl) (λ z. refl) ns (Now s n (outputs ns)) n (known s n (outputs ns)) ∙ after s n is_output_lem ns (outputs ns) (old_output s n (outputs ns))
-output_turns s (gate ps q) n = look_kept is_output_lem (driven (gates (numbers (Now s n (gate ps q)) ps) _)) (λ z. refl) (λ z. refl) (Now s n (gate ps q)) (number_of (Now s n (gate ps q)) q.bytes) n ∙ old_output s n (gate ps q)
+output_turns s (inputs ns) n = each_kept is_output (driven input) (λ z. refl) (λ z. refl) ns (Now s n (inputs ns)) n ∙ old_output s n (inputs ns)
+output_turns s (outputs ns) n = each_set is_output as_output (λ z. refl) (λ z. refl) ns (Now s n (outputs ns)) n (known s n (outputs ns)) ∙ after s n is_output ns (outputs ns) (old_output s n (outputs ns))
+output_turns s (gate ps q) n = look_kept is_output (driven (gates (numbers (Now s n (gate ps q)) ps) _)) (λ z. refl) (λ z. refl) (Now s n (gate ps q)) (number_of (Now s n (gate ps q)) q.bytes) n ∙ old_output s n (gate ps q)
 output_turns s (latch d q ws) n =
     let now = Now s n (latch d q ws) in
     let mid = on_named (driven (latched (number_of now d.bytes) ws)) now q in
-    look_kept is_output_lem as_captured (λ z. refl) (λ z. refl) mid (number_of mid d.bytes) n
-    ∙ (look_kept is_output_lem (driven (latched (number_of now d.bytes) ws)) (λ z. refl) (λ z. refl) now (number_of now q.bytes) n ∙ old_output s n (latch d q ws))
-output_turns s (row r) n = rows_kept is_output_lem (λ x z. refl) s.stage s.signals r n
+    look_kept is_output as_captured (λ z. refl) (λ z. refl) mid (number_of mid d.bytes) n
+    ∙ (look_kept is_output (driven (latched (number_of now d.bytes) ws)) (λ z. refl) (λ z. refl) now (number_of now q.bytes) n ∙ old_output s n (latch d q ws))
+output_turns s (row r) n = rows_kept is_output (λ x z. refl) s.stage s.signals r n
 output_turns s ending n = refl
 output_turns s wrong n = refl
 
-captured_turns : Turns is_captured_lem data_of
+captured_turns : Turns is_captured data_of
 captured_turns s (model m) n = refl
-captured_turns s (inputs ns) n = each_kept is_captured_lem (driven input) (λ z. refl) (λ z. refl) ns (Now s n (inputs ns)) n ∙ old_captured s n (inputs ns)
-captured_turns s (outputs ns) n = each_kept is_captured_lem as_output (λ z. refl) (λ z. refl) ns (Now s n (outputs ns)) n ∙ old_captured s n (outputs ns)
-captured_turns s (gate ps q) n = look_kept is_captured_lem (driven (gates (numbers (Now s n (gate ps q)) ps) _)) (λ z. refl) (λ z. refl) (Now s n (gate ps q)) (number_of (Now s n (gate ps q)) q.bytes) n ∙ old_captured s n (gate ps q)
+captured_turns s (inputs ns) n = each_kept is_captured (driven input) (λ z. refl) (λ z. refl) ns (Now s n (inputs ns)) n ∙ old_captured s n (inputs ns)
+captured_turns s (outputs ns) n = each_kept is_captured as_output (λ z. refl) (λ z. refl) ns (Now s n (outputs ns)) n ∙ old_captured s n (outputs ns)
+captured_turns s (gate ps q) n = look_kept is_captured (driven (gates (numbers (Now s n (gate ps q)) ps) _)) (λ z. refl) (λ z. refl) (Now s n (gate ps q)) (number_of (Now s n (gate ps q)) q.bytes) n ∙ old_captured s n (gate ps q)
 captured_turns s (latch d q ws) n =
     let now = Now s n (latch d q ws) in
     let g = driven (latched (number_of now d.bytes) ws) in
     let mid = on_named g now q in
-    one_set is_captured_lem as_captured (λ z. refl) (λ z. refl) d mid n (omega (arith, (known s n (latch d q ws)).0, number_kept g (λ z. refl) now (number_of now q.bytes) d.bytes, length-set now (number_of now q.bytes) (g (get_or now (number_of now q.bytes) no_signal))))
-    ∙ ap (λ (b : Bool). list_any (named n) (d ∷ []) || b) (look_kept is_captured_lem g (λ z. refl) (λ z. refl) now (number_of now q.bytes) n ∙ old_captured s n (latch d q ws))
-captured_turns s (row r) n = rows_kept is_captured_lem (λ x z. refl) s.stage s.signals r n
+    one_set is_captured as_captured (λ z. refl) (λ z. refl) d mid n (omega (arith, (known s n (latch d q ws)).0, number_kept g (λ z. refl) now (number_of now q.bytes) d.bytes, length-set now (number_of now q.bytes) (g (get_or now (number_of now q.bytes) no_signal))))
+    ∙ ap (λ (b : Bool). list_any (named n) (d ∷ []) || b) (look_kept is_captured g (λ z. refl) (λ z. refl) now (number_of now q.bytes) n ∙ old_captured s n (latch d q ws))
+captured_turns s (row r) n = rows_kept is_captured (λ x z. refl) s.stage s.signals r n
 captured_turns s ending n = refl
 captured_turns s wrong n = refl
 
@@ -188,8 +170,8 @@ module _ (f : Signal → Bool) (part : Statement → List Piece) (turns : Turns 
       let a = accepted text ss e in
       ap (λ (xs : List Signal). look f xs n) (sym a.1.1.0) ∙ all_lines So again (lines 0 text) [] (state Before []) a.0 a.1.0 start n
 
-pub text_outputs : (text : List ℕ) (ss : List Signal) → Accepted text ss → (n : List ℕ) → look is_output_lem ss n ≡ list_any (named n) (words_in outputs_of text)
-text_outputs = text_turns is_output_lem outputs_of output_turns (λ n. refl)
+pub text_outputs : (text : List ℕ) (ss : List Signal) → Accepted text ss → (n : List ℕ) → look is_output ss n ≡ list_any (named n) (words_in outputs_of text)
+text_outputs = text_turns is_output outputs_of output_turns (λ n. refl)
 
-pub text_captures : (text : List ℕ) (ss : List Signal) → Accepted text ss → (n : List ℕ) → look is_captured_lem ss n ≡ list_any (named n) (words_in data_of text)
-text_captures = text_turns is_captured_lem data_of captured_turns (λ n. refl)
+pub text_captures : (text : List ℕ) (ss : List Signal) → Accepted text ss → (n : List ℕ) → look is_captured ss n ≡ list_any (named n) (words_in data_of text)
+text_captures = text_turns is_captured data_of captured_turns (λ n. refl)

@@ -1,12 +1,22 @@
 -- Cycles among the signals that a text describes are those of the network's signals.
-use Rattle.std.proofs.Common.{◌≡◌, ℕ, zero, suc, ◌<◌, List, [], ◌∷◌, length, get_or, sym, refl, ap, ◌∙◌, subst, arith, length-take-le, get_or-take}
+use Rattle.std.proofs.Common.{◌≡◌, ℕ, zero, suc, ◌<◌, List, [], ◌∷◌, length, get_or, IsErrAnd, MatchResult, Ok, Err, Result, sym, refl, ap, ◌∙◌, subst, arith, length-take-le, get_or-take}
+use Rattle.fault.specs.declared.cause.Cause.TheVariants.{Cycle}
+use Rattle.network.specs.Build.{Built}
 use Rattle.network.specs.Reach as net
 use Rattle.network.specs.Reach.{Reaches, wire, further}
-use Rattle.network.specs.Wiring.{absent, driver, pin_count_lem, signal_at_pin}
+use Rattle.network.specs.Wiring.{absent, driver, number_of_pins, signal_at_pin}
+use Rattle.network.specs.declared.cyclic.Cyclic.{Cyclic}
+use Rattle.network.specs.declared.network.Network.{Network}
+use Rattle.network.specs.declared.span.Span.{Span}
 use Rattle.network.specs.declared.signal.Driver.{Driver}
 use Rattle.network.specs.declared.signal.Driver.TheVariants.{Undriven, Input, Latched, Gated}
 use Rattle.network.specs.declared.signal.Signal.{Signal}
-use Rattle.netlist.specs.Cycles.{pins_of, pins_at, Wire, LowestOnCycle, Acyclic}
+use Rattle.netlist.specs.declared.netlist_fault.NetlistFault.{NetlistFault}
+use Rattle.netlist.specs.declared.netlist_fault.NetlistFault.TheVariants.{OfNetlist}
+use Rattle.netlist.specs.Cycles.{pins_of, pins_at, Wire, LowestOnCycle, Acyclic, Closes, network_on}
+use Rattle.netlist.specs.Faults.{fault}
+use Rattle.netlist.specs.Outcomes.{refusal_of}
+use Rattle.netlist.specs.Reading.{netlist}
 use Rattle.netlist.specs.Signals.{no_signal}
 use Rattle.netlist.specs.Views.{driver_on, signals_on}
 
@@ -16,38 +26,38 @@ reached f (wire w) = wire (f _ _ w)
 reached f (further r w) = further (reached f r) (f _ _ w)
 
 module _ (text : List ℕ) where
-  driver_on_lem : (xs : List Signal) (s : ℕ) → (get_or (signals_on text xs) s no_signal).driver ≡ driver_on text (driver xs s)
-  driver_on_lem [] s = refl
-  driver_on_lem (x ∷ xs) zero = refl
-  driver_on_lem (x ∷ xs) (suc s) = driver_on_lem xs s
+  driver_same : (xs : List Signal) (s : ℕ) → (get_or (signals_on text xs) s no_signal).driver ≡ driver_on text (driver xs s)
+  driver_same [] s = refl
+  driver_same (x ∷ xs) zero = refl
+  driver_same (x ∷ xs) (suc s) = driver_same xs s
 
   pub place_on : (xs : List Signal) (s : ℕ) → (get_or (signals_on text xs) s no_signal).name.place ≡ (get_or xs s absent).name.at
   place_on [] s = refl
   place_on (x ∷ xs) zero = refl
   place_on (x ∷ xs) (suc s) = place_on xs s
 
-  count_on : (d : Driver) → length (pins_of (driver_on text d)) ≡ pin_count_lem d
+  count_on : (d : Driver) → length (pins_of (driver_on text d)) ≡ number_of_pins d
   count_on Undriven = refl
   count_on Input = refl
   count_on (Latched l) = refl
   count_on (Gated g) = length-take-le g.pin_count g.pins (omega (arith, g.few, g.wide))
 
-  pin_on : (d : Driver) (k : ℕ) → k < pin_count_lem d → get_or (pins_of (driver_on text d)) k 0 ≡ signal_at_pin d k
+  pin_on : (d : Driver) (k : ℕ) → k < number_of_pins d → get_or (pins_of (driver_on text d)) k 0 ≡ signal_at_pin d k
   pin_on Undriven k h = absurd (omega arith)
   pin_on Input k h = absurd (omega arith)
   pin_on (Latched l) k h = absurd (omega arith)
   pin_on (Gated g) k h = get_or-take g.pin_count g.pins k 0 h
 
   module _ (xs : List Signal) where
-    count_at : (s : ℕ) → length (pins_at (signals_on text xs) s) ≡ pin_count_lem (driver xs s)
-    count_at s = ap (λ d. length (pins_of d)) (driver_on_lem xs s) ∙ count_on (driver xs s)
+    count_at : (s : ℕ) → length (pins_at (signals_on text xs) s) ≡ number_of_pins (driver xs s)
+    count_at s = ap (λ d. length (pins_of d)) (driver_same xs s) ∙ count_on (driver xs s)
 
-    pin_at : (s k : ℕ) → k < pin_count_lem (driver xs s) → get_or (pins_at (signals_on text xs) s) k 0 ≡ signal_at_pin (driver xs s) k
-    pin_at s k h = ap (λ d. get_or (pins_of d) k 0) (driver_on_lem xs s) ∙ pin_on (driver xs s) k h
+    pin_at : (s k : ℕ) → k < number_of_pins (driver xs s) → get_or (pins_at (signals_on text xs) s) k 0 ≡ signal_at_pin (driver xs s) k
+    pin_at s k h = ap (λ d. get_or (pins_of d) k 0) (driver_same xs s) ∙ pin_on (driver xs s) k h
 
     to_net : (u s : ℕ) → Wire (signals_on text xs) u s → net.Wire xs u s
     to_net u s w =
-        let h : w.0 < pin_count_lem (driver xs s) = subst (λ n. w.0 < n) (count_at s) w.1 in
+        let h : w.0 < number_of_pins (driver xs s) = subst (λ n. w.0 < n) (count_at s) w.1 in
         (w.0, h, sym (pin_at s w.0 h) ∙ w.2)
 
     of_net : (u s : ℕ) → net.Wire xs u s → Wire (signals_on text xs) u s
@@ -58,3 +68,14 @@ module _ (text : List ℕ) where
 
     pub lowest_on : (s : ℕ) → net.LowestOnCycle xs s → LowestOnCycle (signals_on text xs) s
     lowest_on s l = record { cyclic = reached of_net l.cyclic; lowest = λ c h o. l.lowest c h (reached to_net o) }
+
+-- a network stands as it is, and a cycle is refused where its lowest signal is named; P says what the refusals are
+pub joined : (text : List ℕ) (xs : List Signal) (v : Result Network Cyclic) (r : Result Network NetlistFault) (P : Cyclic → NetlistFault → Type 0) → ((y : Cyclic) (f : NetlistFault) → P y f → f ≡ OfNetlist (fault Cycle y.name.at)) → Built xs v → MatchResult v (λ x. r ≡ Ok x) (λ y. IsErrAnd r (P y)) → Closes (netlist (signals_on text xs)) (network_on text r)
+joined text xs (Ok net) r P gives b e =
+    subst (λ (q : Result Network NetlistFault). Closes (netlist (signals_on text xs)) (network_on text q)) (sym e) (ap (signals_on text) b.1, acyclic_on text xs b.0)
+joined text xs (Err y) (Ok net) P gives b e = absurd e
+joined text xs (Err y) (Err f) P gives b e = (
+  y.lowest,
+  lowest_on text xs y.lowest b.0,
+  ap refusal_of (gives y f e) ∙ ap (fault Cycle) (ap (λ (n : Span). n.at) b.1 ∙ sym (place_on text xs y.lowest)),
+)

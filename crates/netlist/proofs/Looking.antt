@@ -5,7 +5,7 @@ use Rattle.std.specs.Str.{bytes_eq}
 use Rattle.std.proofs.lemmas.Slice.Eq.{bytes_eq-Decides}
 use Rattle.std.proofs.lemmas.Bool.{cases_Bool, cond-true, cond-false}
 use Rattle.text.specs.Text.{Piece}
-use Rattle.netlist.specs.Signals.{Signal, no_signal, number_of, fresh, mention, mention_all_lem, changed, on_named, on_each}
+use Rattle.netlist.specs.Signals.{Signal, no_signal, number_of, fresh, mention, mention_all, changed, on_named, on_each}
 
 abbrev Name : Signal → List ℕ
 Name s = s.name.bytes
@@ -41,7 +41,7 @@ module _ (f : Signal → Bool) where
         ∙ (look_cons s (mention ss w) n ∙ (ap (cond (bytes_eq (Name s) n) (f s)) (mention_look ss w n) ∙ sym (look_cons s ss n))))
         (cases_Bool (bytes_eq (Name s) w.bytes))
 
-    pub mentions_look : (ws : List Piece) (ss : List Signal) (n : List ℕ) → look (mention_all_lem ss ws) n ≡ look ss n
+    pub mentions_look : (ws : List Piece) (ss : List Signal) (n : List ℕ) → look (mention_all ss ws) n ≡ look ss n
     mentions_look [] ss n = refl
     mentions_look (w ∷ ws) ss n = mentions_look ws (mention ss w) n ∙ mention_look ss w n
 

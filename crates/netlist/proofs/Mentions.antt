@@ -1,16 +1,20 @@
 -- Signals by mention, and their changes. Assumes nothing.
-use Rattle.std.proofs.Common.{◌≡◌, ℕ, suc, ◌+◌, ◌<◌, ◌≤◌, false, List, [], ◌∷◌, ◌++◌, map, length, get_or, take, drop, set, sym, refl, ap, ◌∙◌, ⊎_elim, arith}
+use Rattle.std.proofs.Common.{◌≡◌, ℕ, zero, suc, ◌+◌, ◌<◌, ◌≤◌, false, List, [], ◌∷◌, ◌++◌, map, length, get_or, drop, set, Some, sym, refl, ap, ◌∙◌, ◌⊎◌, inl, inr, ⊎_elim, arith, length-append}
 use Rattle.std.specs.Str.{bytes_eq}
-use Rattle.std.proofs.lemmas.List.{at_drop_more, at_drop_all, map_push, append_assoc, append-nil, take_more, take_more_set, take_all, map-set, set_past, get_or-map, length-map, drop_at, drop_all}
-use Rattle.std.proofs.lemmas.Bool.{cases_Bool, cond-true, cond-false}
+use Rattle.std.proofs.lemmas.List.{at_drop_more, at_drop_all, map_push, map-append, append_assoc, append-nil, map-set, get_or-map, length-map, drop_at, drop_all}
+use Rattle.std.proofs.lemmas.Bool.{cases_Bool, cases_lt, cond-true, cond-false}
+use Rattle.fault.specs.declared.cause.Cause.TheVariants.{TooManySignals}
+use Rattle.fault.specs.declared.refusal.Refusal.{Refusal}
 use Rattle.network.specs.declared.span.Span.{Span}
 use Rattle.network.specs.declared.signal.Signal as code
 use Rattle.network.specs.declared.signal.Driver.TheVariants.{Undriven}
 use Rattle.network.specs.Limit.{max_signals}
 use Rattle.text.specs.Text.{Piece}
-use Rattle.netlist.specs.Signals.{Signal, number_of, mention, mention_all_lem, fresh, changed, on_named, on_each, numbers, no_signal}
-use Rattle.netlist.specs.Faults.{too_many}
+use Rattle.netlist.specs.Signals.{Signal, number_of, Known, mention, mention_all, fresh, changed, on_named, no_signal}
+use Rattle.netlist.specs.Faults.{fault, too_many}
+use Rattle.netlist.specs.Outcomes.{first_of}
 use Rattle.netlist.specs.Views.{piece_on, pieces, signal_on, signals_on}
+use Rattle.netlist.proofs.Firsts.{first_stops}
 
 -- a name that is known, and one that is new
 pub mention_old : (ss : List Signal) (w : Piece) → number_of ss w.bytes < length ss → ss ≡ mention ss w
@@ -31,40 +35,26 @@ mention_new (s ∷ ss) w h =
     ∙ ap {B = List Signal} (λ xs. s ∷ xs) (mention_new ss w (omega (arith, cond-false (bytes_eq s.name.bytes w.bytes) 0 (suc (number_of ss w.bytes)) f))))
     (cases_Bool (bytes_eq s.name.bytes w.bytes))
 
--- the code found k for the span w among the signals cs, of which it saw vs
-module _ (t : List ℕ) (cs vs : List code.Signal) (w : Span) (k : ℕ) (p : Piece) (e : k ≡ number_of (signals_on t vs) p.bytes) (b : p ≡ piece_on t w) (v : vs ≡ cs) where
-  found : k ≡ number_of (signals_on t cs) (piece_on t w).bytes
-  found = e ∙ (ap (λ (x : Piece). number_of (signals_on t vs) x.bytes) b ∙ ap (λ (xs : List code.Signal). number_of (signals_on t xs) (piece_on t w).bytes) v)
+pub mention_ways : (ss : List Signal) (w : Piece) → (mention ss w ≡ ss) ⊎ (mention ss w ≡ ss ++ fresh w ∷ [])
+mention_ways ss w = ⊎_elim (λ l. inl (sym (mention_old ss w l))) (λ l. inr (mention_new ss w l)) (cases_lt (number_of ss w.bytes) (length ss))
 
-  pub code_old : k < length cs → signals_on t cs ≡ mention (signals_on t cs) (piece_on t w)
-  code_old h = mention_old (signals_on t cs) (piece_on t w) (omega (arith, found, length-map cs (signal_on t)))
+-- a signal changed, and a signal more
+pub changed_at : (t : List ℕ) (cs : List code.Signal) (k : ℕ) (f : Signal → Signal) (x d : code.Signal) → k < length cs → signal_on t x ≡ f (signal_on t (get_or cs k d)) → signals_on t (set cs k x) ≡ changed f (signals_on t cs) k
+changed_at t cs k f x d h q = map-set (signal_on t) cs k x ∙ ap (set (signals_on t cs) k) (q ∙ ap f (sym (get_or-map (signal_on t) cs k d no_signal h)))
 
-  pub code_new : length cs ≤ k → mention (signals_on t cs) (piece_on t w) ≡ signals_on t cs ++ fresh (piece_on t w) ∷ []
-  code_new h = mention_new (signals_on t cs) (piece_on t w) (omega (arith, found, length-map cs (signal_on t)))
+module _ (t : List ℕ) (cs : List code.Signal) (w : Span) where
+  pub code_pushed : (more : List code.Signal) → more ≡ cs ++ record { name = w; driver = Undriven; output = false; captured = false } ∷ [] → length (signals_on t cs) ≤ number_of (signals_on t cs) (piece_on t w).bytes → signals_on t more ≡ mention (signals_on t cs) (piece_on t w)
+  code_pushed more q h = ap (signals_on t) q ∙ (map_push (signal_on t) cs _ ∙ sym (mention_new (signals_on t cs) (piece_on t w) h))
 
-  pub code_pushed : (more : List code.Signal) → more ≡ cs ++ record { name = w; driver = Undriven; output = false; captured = false } ∷ [] → length cs ≤ k → signals_on t more ≡ mention (signals_on t cs) (piece_on t w)
-  code_pushed more q h = ap (signals_on t) q ∙ (map_push (signal_on t) cs _ ∙ sym (code_new h))
-
-  module _ (f : Signal → Signal) where
-    pub change_here : (x d : code.Signal) → k < length cs → signal_on t x ≡ f (signal_on t (get_or cs k d)) → signals_on t (set cs k x) ≡ on_named f (signals_on t cs) (piece_on t w)
-    change_here x d h q =
-        map-set (signal_on t) cs k x
-        ∙ (ap (set (signals_on t cs) k) (q ∙ ap f (sym (get_or-map (signal_on t) cs k d no_signal h))) ∙ ap (changed f (signals_on t cs)) found)
-
-    pub change_past : length cs ≤ k → signals_on t cs ≡ on_named f (signals_on t cs) (piece_on t w)
-    change_past h = sym (set_past (signals_on t cs) k _ (omega (arith, length-map cs (signal_on t)))) ∙ ap (changed f (signals_on t cs)) found
+  pub change_here : (f : Signal → Signal) (k : ℕ) (x d : code.Signal) → Known (signals_on t cs) (piece_on t w).bytes × (k ≡ number_of (signals_on t cs) (piece_on t w).bytes) → signal_on t x ≡ f (signal_on t (get_or cs k d)) → signals_on t (set cs k x) ≡ on_named f (signals_on t cs) (piece_on t w)
+  change_here f k x d h q = changed_at t cs k f x d (omega (arith, h.0, h.1, length-map cs (signal_on t))) q ∙ ap (changed f (signals_on t cs)) h.1
 
 -- ---- one too many
 
 mention_grows : (ss : List Signal) (w : Piece) → (more : List Signal) × (mention ss w ≡ ss ++ more)
-mention_grows [] w = (fresh w ∷ [], refl)
-mention_grows (s ∷ ss) w =
-    ⊎_elim
-    (λ t. ([], cond-true (bytes_eq s.name.bytes w.bytes) _ _ t ∙ sym (append-nil (s ∷ ss))))
-    (λ f. ((mention_grows ss w).0, cond-false (bytes_eq s.name.bytes w.bytes) _ _ f ∙ ap {B = List Signal} (λ xs. s ∷ xs) (mention_grows ss w).1))
-    (cases_Bool (bytes_eq s.name.bytes w.bytes))
+mention_grows ss w = ⊎_elim (λ e. ([], e ∙ sym (append-nil ss))) (λ e. (fresh w ∷ [], e)) (mention_ways ss w)
 
-all_grow : (ws : List Piece) (ss : List Signal) → (more : List Signal) × (mention_all_lem ss ws ≡ ss ++ more)
+all_grow : (ws : List Piece) (ss : List Signal) → (more : List Signal) × (mention_all ss ws ≡ ss ++ more)
 all_grow [] ss = ([], sym (append-nil ss))
 all_grow (w ∷ ws) ss = (
   (mention_grows ss w).0 ++ (all_grow ws (mention ss w)).0,
@@ -76,58 +66,40 @@ all_grow (w ∷ ws) ss = (
 abbrev pub Place : Signal → ℕ
 Place s = s.name.place
 
-too_many_lem : (ss : List Signal) (w : Piece) (ws : List Piece) → length ss ≡ max_signals → mention ss w ≡ ss ++ fresh w ∷ [] → (more : List ℕ) × (too_many (mention_all_lem ss (w ∷ ws)) ≡ w.place ∷ more)
-too_many_lem ss w ws h e =
-    let rest : List Signal = (all_grow ws (mention ss w)).0 in (
-      map Place rest,
-      ap too_many
-          ((all_grow ws (mention ss w)).1
-          ∙ (ap (λ (xs : List Signal). xs ++ rest) e ∙ append_assoc ss (fresh w ∷ []) rest))
-          ∙ ap (map Place) (drop_at ss (fresh w ∷ rest) max_signals h),
-    )
-
-module _ (t : List ℕ) (ss : List Signal) (xs : List Span) (i : ℕ) (r : List Signal) where
-  abbrev All : List Span → List Signal
-  All ys = mention_all_lem ss (pieces t ys)
-
-  pub full_here : (d : Span) → i < length xs → (length ss ≡ max_signals) × (mention ss (piece_on t (get_or xs i d)) ≡ ss ++ fresh (piece_on t (get_or xs i d)) ∷ []) → All (drop i xs) ≡ r → (more : List ℕ) × (too_many r ≡ (get_or xs i d).at ∷ more)
-  full_here d h f inv =
-      let m = too_many_lem ss (piece_on t (get_or xs i d)) (pieces t (drop (i + 1) xs)) f.0 f.1 in
-      (m.0, ap too_many (sym inv ∙ at_drop_more All xs i d h) ∙ m.1)
-
-  pub fold_more : (d : Span) (now : List Signal) → i < length xs → now ≡ mention ss (piece_on t (get_or xs i d)) → All (drop i xs) ≡ r → mention_all_lem now (pieces t (drop (i + 1) xs)) ≡ r
-  fold_more d now h e inv = ap (λ (ys : List Signal). mention_all_lem ys (pieces t (drop (i + 1) xs))) e ∙ (sym (at_drop_more All xs i d h) ∙ inv)
-
-  pub fold_none : length xs ≤ i → All (drop i xs) ≡ r → ss ≡ r
-  fold_none h inv = sym (at_drop_all All xs i h) ∙ inv
+-- the signal that is one too many
+pub one_many : (ss : List Signal) (w : Piece) → length ss ≡ max_signals → length ss ≤ number_of ss w.bytes → too_many (mention ss w) ≡ w.place ∷ []
+one_many ss w h n = ap too_many (mention_new ss w n) ∙ ap (map Place) (drop_at ss (fresh w ∷ []) max_signals h)
 
 pub few_none : (ss r : List Signal) → length ss ≤ max_signals → ss ≡ r → too_many r ≡ []
 few_none ss r h e = ap too_many (sym e) ∙ ap (map Place) (drop_all max_signals ss h)
 
--- ---- changes one by one
+pub few_new : (ss : List Signal) (w : Piece) → length ss < max_signals → length ss ≤ number_of ss w.bytes → too_many (mention ss w) ≡ []
+few_new ss w h n = few_none (ss ++ fresh w ∷ []) (mention ss w) (omega (arith, length-append ss (fresh w ∷ []))) (sym (mention_new ss w n))
 
-module _ (t : List ℕ) (f : Signal → Signal) (ss : List Signal) (xs : List Span) (i : ℕ) (r : List Signal) where
-  abbrev Each : List Span → List Signal
-  Each ys = on_each f ss (pieces t ys)
+abbrev pub Many : List ℕ → List Refusal
+Many ps = map (fault TooManySignals) ps
 
-  pub each_more : (d : Span) (now : List Signal) → i < length xs → now ≡ on_named f ss (piece_on t (get_or xs i d)) → Each (drop i xs) ≡ r → on_each f now (pieces t (drop (i + 1) xs)) ≡ r
-  each_more d now h e inv = ap (λ (ys : List Signal). on_each f ys (pieces t (drop (i + 1) xs))) e ∙ (sym (at_drop_more Each xs i d h) ∙ inv)
+drop_grows : (n : ℕ) (xs ys : List Signal) → (zs : List Signal) × (drop n (xs ++ ys) ≡ drop n xs ++ zs)
+drop_grows zero xs ys = (ys, refl)
+drop_grows (suc n) [] ys = (drop (suc n) ys, refl)
+drop_grows (suc n) (x ∷ xs) ys = drop_grows n xs ys
 
-  pub each_none : length xs ≤ i → Each (drop i xs) ≡ r → ss ≡ r
-  each_none h inv = sym (at_drop_all Each xs i h) ∙ inv
+module _ (t : List ℕ) (ss : List Signal) (xs : List Span) (i : ℕ) (r : List Signal) where
+  abbrev All : List Span → List Signal
+  All ys = mention_all ss (pieces t ys)
 
--- ---- pins
+  -- what is too many stays so
+  pub full_here : (d : Span) (f : Refusal) → i < length xs → Some f ≡ first_of (Many (too_many (mention ss (piece_on t (get_or xs i d))))) → All (drop i xs) ≡ r → Some f ≡ first_of (Many (too_many r))
+  full_here d f h e inv =
+      let w : Piece = piece_on t (get_or xs i d) in
+      let ws : List Piece = pieces t (drop (i + 1) xs) in
+      let more : List Signal = (all_grow ws (mention ss w)).0 in
+      let z = drop_grows max_signals (mention ss w) more in
+      let many : List Signal = drop max_signals (mention ss w) in
+      first_stops (Many (map Place many)) (Many (map Place z.0)) e
+      ∙ sym (ap (λ (ys : List Signal). first_of (Many (too_many ys))) (sym inv ∙ (at_drop_more All xs i d h ∙ (all_grow ws (mention ss w)).1))
+      ∙ (ap (λ (ys : List Signal). first_of (Many (map Place ys))) z.1
+      ∙ ap first_of (ap Many (map-append Place many z.0) ∙ map-append (fault TooManySignals) (map Place many) (map Place z.0))))
 
-module _ (t : List ℕ) (ss : List Signal) (xs : List Span) (found : List ℕ) (i : ℕ) where
-  pub pins_more : (d : Span) (k : ℕ) (p : Piece) → i < length xs → i < length found → k ≡ number_of ss p.bytes → p ≡ piece_on t (get_or xs i d) → take i found ≡ numbers ss (pieces t (take i xs)) → take (i + 1) (set found i k) ≡ numbers ss (pieces t (take (i + 1) xs))
-  pins_more d k p h l e b inv =
-      take_more_set found i k l
-      ∙ (ap (λ (ys : List ℕ). ys ++ k ∷ []) inv
-      ∙ (ap (λ (y : ℕ). numbers ss (pieces t (take i xs)) ++ y ∷ []) (e ∙ ap (λ (x : Piece). number_of ss x.bytes) b)
-      ∙ sym (ap (λ (ys : List Span). numbers ss (pieces t ys)) (take_more xs i d h)
-      ∙ (ap (numbers ss) (map_push (piece_on t) (take i xs) (get_or xs i d)) ∙ map_push (λ (w : Piece). number_of ss w.bytes) (pieces t (take i xs)) (piece_on t (get_or xs i d))))))
-
-  pub pins_all : length xs ≤ i → i ≤ length xs → take i found ≡ numbers ss (pieces t (take i xs)) → take (length xs) found ≡ numbers ss (pieces t xs)
-  pins_all h l inv =
-      let q : length xs ≡ i = omega arith in
-      ap (λ (k : ℕ). take k found) q ∙ (inv ∙ ap (λ (ys : List Span). numbers ss (pieces t ys)) (take_all i xs h))
+  pub fold_none : length xs ≤ i → All (drop i xs) ≡ r → ss ≡ r
+  fold_none h inv = sym (at_drop_all All xs i h) ∙ inv

@@ -7,18 +7,19 @@ use Rattle.std.proofs.lemmas.Slice.Eq.{bytes_eq-Decides}
 use Rattle.std.proofs.lemmas.List.{map-append, get_or-map, get_or_append_left, length-map, take_all}
 use Rattle.std.proofs.lemmas.Bool.{cases_Bool, cond_both, cond-true, cond-false}
 use Rattle.rows.specs.Rows.{Row}
-use Rattle.text.specs.Text.{Piece, piece, newline, solid, blank, solid_first, begun, widened, words, lines}
+use Rattle.text.specs.Text.{Piece, piece, newline, widened, words, lines}
 use Rattle.text.specs.Words.{Lexeme, keyword, unknown, plain, lexeme_of, places_of}
 use Rattle.text.specs.declared.word.Command.{Command}
 use Rattle.text.specs.declared.word.Command.TheVariants.{Model, Inputs, Outputs, Names, Latch, End}
 use Rattle.netlist.specs.declared.stage.Stage.{Stage}
 use Rattle.netlist.specs.declared.stage.Stage.TheVariants.{Before, Body, Rows, After}
-use Rattle.netlist.specs.Effects.{state, add_row_lem, row_at, row_done, effect, words_effect}
+use Rattle.netlist.specs.Effects.{state, add_row, row_at, row_done, effect, words_effect}
 use Rattle.netlist.specs.Faults.{State}
 use Rattle.netlist.specs.Laws.{part_of, words_in, name_of, Accepted}
 use Rattle.netlist.specs.Reading.{step, ongoing}
-use Rattle.netlist.specs.Signals.{Signal, no_signal, input, latched, gates, number_of, mention, mention_all_lem, changed, on_named, on_each, driven, as_output, as_captured, numbers}
-use Rattle.netlist.specs.Statements.{Statement, model, inputs, outputs, gate, latch, row, ending, wrong, latch_rest_lem, statement_of, command_of, model_of, gate_of, latch_of, end_of, mentions_of}
+use Rattle.netlist.specs.Signals.{Signal, no_signal, input, latched, gates, number_of, mention, mention_all, changed, on_named, on_each, driven, as_output, as_captured, numbers}
+use Rattle.netlist.specs.Statements.{Statement, model, inputs, outputs, gate, latch, row, ending, wrong, latch_rest, statement_of, command_of, model_of, gate_of, latch_of, end_of, mentions_of}
+use Rattle.netlist.proofs.Climbing.{Climb, climb_le, climb_wide, words_climb}
 use Rattle.netlist.proofs.Accepting.{step_ongoing, all_lines, accepted}
 use Rattle.netlist.proofs.Endings.{in_lines, lines_push}
 use Rattle.netlist.proofs.Looking.{look, look_cons}
@@ -56,7 +57,7 @@ names_mention (s ∷ ss) w =
     map_cond (bytes_eq s.name.bytes w.bytes) (s ∷ ss) (s ∷ mention ss w)
     ∙ ap (λ (ys : List Piece). cond (bytes_eq s.name.bytes w.bytes) (names (s ∷ ss)) (s.name ∷ ys)) (names_mention ss w)
 
-names_all : (ws : List Piece) (ss : List Signal) → names (mention_all_lem ss ws) ≡ fold noted (names ss) ws
+names_all : (ws : List Piece) (ss : List Signal) → names (mention_all ss ws) ≡ fold noted (names ss) ws
 names_all [] ss = refl
 names_all (w ∷ ws) ss = names_all ws (mention ss w) ∙ ap (λ (xs : List Piece). fold noted xs ws) (names_mention ss w)
 
@@ -77,7 +78,7 @@ each_kept g h (w ∷ ws) ss = each_kept g h ws (on_named g ss w) ∙ kept g h ss
 row_kept : (g : Stage) (ss : List Signal) (r : Row) → names (row_at g ss r) ≡ names ss
 row_kept Before ss r = refl
 row_kept Body ss r = refl
-row_kept (Rows k) ss r = kept (add_row_lem r) (λ z. refl) ss k
+row_kept (Rows k) ss r = kept (add_row r) (λ z. refl) ss k
 row_kept After ss r = refl
 
 rows_kept : (g : Stage) (ss : List Signal) (r : Option Row) → names (row_done g ss r) ≡ names ss
@@ -86,13 +87,13 @@ rows_kept g ss (Some r) = row_kept g ss r
 
 effect_names : (s : State) (st : Statement) → names (effect s st).signals ≡ fold noted (names s.signals) (mentions_of st)
 effect_names s (model n) = refl
-effect_names s (inputs ns) = each_kept (driven input) (λ z. refl) ns (mention_all_lem s.signals ns) ∙ names_all ns s.signals
-effect_names s (outputs ns) = each_kept as_output (λ z. refl) ns (mention_all_lem s.signals ns) ∙ names_all ns s.signals
+effect_names s (inputs ns) = each_kept (driven input) (λ z. refl) ns (mention_all s.signals ns) ∙ names_all ns s.signals
+effect_names s (outputs ns) = each_kept as_output (λ z. refl) ns (mention_all s.signals ns) ∙ names_all ns s.signals
 effect_names s (gate ps q) =
-    let now = mention_all_lem s.signals (ps ++ q ∷ []) in
+    let now = mention_all s.signals (ps ++ q ∷ []) in
     kept (driven (gates (numbers now ps) _)) (λ z. refl) now (number_of now q.bytes) ∙ names_all (ps ++ q ∷ []) s.signals
 effect_names s (latch d q ws) =
-    let now = mention_all_lem s.signals (d ∷ q ∷ []) in
+    let now = mention_all s.signals (d ∷ q ∷ []) in
     let mid = on_named (driven (latched (number_of now d.bytes) ws)) now q in
     kept as_captured (λ z. refl) mid (number_of mid d.bytes) ∙ (kept (driven (latched (number_of now d.bytes) ws)) (λ z. refl) now (number_of now q.bytes) ∙ names_all (d ∷ q ∷ []) s.signals)
 effect_names s (row r) = rows_kept s.stage s.signals r
@@ -170,18 +171,6 @@ look_own f (s ∷ ss) a = (
 
 -- ---- places that climb from lo up to below hi
 
-abbrev Climb : ℕ → ℕ → List ℕ → Type 0
-Climb lo hi [] = lo ≤ hi
-Climb lo hi (p ∷ ps) = (lo ≤ p) × Climb (suc p) hi ps
-
-climb_le : (lo hi : ℕ) (ps : List ℕ) → Climb lo hi ps → lo ≤ hi
-climb_le lo hi [] x = x
-climb_le lo hi (p ∷ ps) x = let a = x.0 in let b = climb_le (suc p) hi ps x.1 in omega (arith, a, b)
-
-climb_wide : (a b lo hi : ℕ) (ps : List ℕ) → a ≤ lo → hi ≤ b → Climb lo hi ps → Climb a b ps
-climb_wide a b lo hi [] h k x = omega (arith, x)
-climb_wide a b lo hi (p ∷ ps) h k x = let l = x.0 in (omega (arith, l), climb_wide (suc p) b (suc p) hi ps (omega arith) k x.1)
-
 climb_append : (lo mid hi : ℕ) (ps qs : List ℕ) → Climb lo mid ps → Climb mid hi qs → Climb lo hi (ps ++ qs)
 climb_append lo mid hi [] qs x y = climb_wide lo hi mid hi qs x (omega arith) y
 climb_append lo mid hi (p ∷ ps) qs x y = (x.0, climb_append (suc p) mid hi ps qs x.1 y)
@@ -200,19 +189,6 @@ places_append xs ys = map-append (λ (w : Piece). w.place) xs ys
 
 -- ---- words and mentions climb through the text
 
-begun_climb : (at b hi : ℕ) (t : Bool) (ws : List Piece) → Climb (suc at) hi (places_of ws) → Climb at hi (places_of (begun at b t ws))
-begun_climb at b hi true [] x = (omega arith, x)
-begun_climb at b hi true (w ∷ ws) x = let q = x.0 in (omega arith, climb_wide (suc at) hi (suc w.place) hi (places_of ws) (omega (arith, q)) (omega arith) x.1)
-begun_climb at b hi false ws x = (omega arith, x)
-
-words_climb : (at : ℕ) (xs : List ℕ) → Climb at (at + length xs) (places_of (words at xs))
-words_climb at [] = omega arith
-words_climb at (b ∷ bs) =
-    let q : suc at + length bs ≡ at + length (b ∷ bs) = omega arith in
-    let rest : Climb (suc at) (at + length (b ∷ bs)) (places_of (words (suc at) bs)) = subst (λ (hi : ℕ). Climb (suc at) hi (places_of (words (suc at) bs))) q (words_climb (suc at) bs) in
-    cond_both (solid b) _ _ (λ (ws : List Piece). Climb at (at + length (b ∷ bs)) (places_of ws)) (λ _. begun_climb at b (at + length (b ∷ bs)) (solid_first bs) (words (suc at) bs) rest)
-    (λ _. cond_both (blank b) (words (suc at) bs) [] (λ (ws : List Piece). Climb at (at + length (b ∷ bs)) (places_of ws)) (λ _. climb_wide at (at + length (b ∷ bs)) (suc at) (at + length (b ∷ bs)) (places_of (words (suc at) bs)) (omega arith) (omega arith) rest) (λ _. omega arith))
-
 -- the mentions of a statement are the first of its words
 abbrev Front : List Piece → List Piece → Type 0
 Front ms ws = (k : ℕ) × (ms ≡ take k ws)
@@ -227,7 +203,7 @@ gate_front (w ∷ ws) = let f = whole (w ∷ ws) in (f.0, sym (front_last w ws) 
 latch_front : (ws : List Piece) → Front (mentions_of (latch_of ws)) ws
 latch_front [] = (0, refl)
 latch_front (d ∷ []) = (0, refl)
-latch_front (d ∷ q ∷ ws) = cond_both (latch_rest_lem ws) (latch d q ws) wrong (λ (st : Statement). Front (mentions_of st) (d ∷ q ∷ ws)) (λ _. (2, refl)) (λ _. (0, refl))
+latch_front (d ∷ q ∷ ws) = cond_both (latch_rest ws) (latch d q ws) wrong (λ (st : Statement). Front (mentions_of st) (d ∷ q ∷ ws)) (λ _. (2, refl)) (λ _. (0, refl))
 
 model_front : (ws : List Piece) → Front (mentions_of (model_of ws)) ws
 model_front [] = (0, refl)

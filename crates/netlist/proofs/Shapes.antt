@@ -1,11 +1,8 @@
 -- The words after a command, by their number. Assumes nothing.
-use Rattle.std.proofs.Common.{◌≡◌, ℕ, ◌-◌, ◌<◌, ◌≤◌, Bool, true, false, ◌&&◌, List, [], ◌∷◌, ◌++◌, length, get_or, take, drop, sym, refl, ap, ◌∙◌, arith}
-use mathlib.Core.Bool.{false≢true}
-use Rattle.std.proofs.lemmas.Bool.{cond-true, cond-false}
+use Rattle.std.proofs.Common.{◌≡◌, ℕ, ◌-◌, ◌<◌, ◌≤◌, true, List, [], ◌∷◌, ◌++◌, length, get_or, take, drop, sym, refl, ap, ◌∙◌, arith}
 use Rattle.network.specs.declared.span.Span.{Span}
 use Rattle.text.specs.Text.{Piece}
-use Rattle.text.specs.Words.{one_of, latch_types, initial_values}
-use Rattle.netlist.specs.Statements.{gate, latch, wrong, front_of, last_of, gate_of, latch_rest_lem, latch_of}
+use Rattle.netlist.specs.Statements.{gate, latch, wrong, model, ending, front_of, last_of, model_of, gate_of, latch_rest, latch_of, end_of}
 use Rattle.netlist.specs.Views.{piece_on, pieces}
 
 -- ---- lists of a known length
@@ -19,51 +16,13 @@ list_one [] d h = absurd (omega arith)
 list_one (a ∷ []) d h = refl
 list_one (a ∷ b ∷ xs) d h = absurd (omega arith)
 
-pub list_two : (xs : List Span) (d : Span) → length xs ≡ 2 → get_or xs 0 d ∷ get_or xs 1 d ∷ [] ≡ xs
-list_two [] d h = absurd (omega arith)
-list_two (a ∷ []) d h = absurd (omega arith)
-list_two (a ∷ b ∷ []) d h = refl
-list_two (a ∷ b ∷ c ∷ xs) d h = absurd (omega arith)
+-- ---- the words after .model and after .end
 
-pub list_three : (xs : List Span) (d : Span) → length xs ≡ 3 → get_or xs 0 d ∷ get_or xs 1 d ∷ get_or xs 2 d ∷ [] ≡ xs
-list_three [] d h = absurd (omega arith)
-list_three (a ∷ []) d h = absurd (omega arith)
-list_three (a ∷ b ∷ []) d h = absurd (omega arith)
-list_three (a ∷ b ∷ c ∷ []) d h = refl
-list_three (a ∷ b ∷ c ∷ e ∷ xs) d h = absurd (omega arith)
+pub model_is : (t : List ℕ) (xs : List Span) (d : Span) → length xs ≡ 1 → model (piece_on t (get_or xs 0 d)) ≡ model_of (pieces t xs)
+model_is t xs d h = ap (λ (ys : List Span). model_of (pieces t ys)) (list_one xs d h)
 
--- ---- the words after a latch's output
-
-pub rest_more : (t : List ℕ) (xs : List Span) → 3 < length xs → false ≡ latch_rest_lem (pieces t xs)
-rest_more t [] h = absurd (omega arith)
-rest_more t (a ∷ []) h = absurd (omega arith)
-rest_more t (a ∷ b ∷ []) h = absurd (omega arith)
-rest_more t (a ∷ b ∷ c ∷ []) h = absurd (omega arith)
-rest_more t (a ∷ b ∷ c ∷ e ∷ xs) h = refl
-
--- by the first word's test a and the last word's test b
-module _ (t : List ℕ) (xs : List Span) (d : Span) where
-  pub rest_none : length xs ≡ 0 → true ≡ latch_rest_lem (pieces t xs)
-  rest_none h = ap (λ (ys : List Span). latch_rest_lem (pieces t ys)) (list_none xs h)
-
-  pub rest_one : length xs ≡ 1 → (w : Piece) (b : Bool) → w ≡ piece_on t (get_or xs 0 d) → b ≡ one_of initial_values w.bytes → b ≡ latch_rest_lem (pieces t xs)
-  rest_one h w b e q = q ∙ (ap (λ (p : Piece). one_of initial_values p.bytes) e ∙ ap (λ (ys : List Span). latch_rest_lem (pieces t ys)) (list_one xs d h))
-
-  pub rest_two : length xs ≡ 2 → (w : Piece) (a : Bool) → w ≡ piece_on t (get_or xs 0 d) → a ≡ one_of latch_types w.bytes → a ≡ latch_rest_lem (pieces t xs)
-  rest_two h w a e q = q ∙ (ap (λ (p : Piece). one_of latch_types p.bytes) e ∙ ap (λ (ys : List Span). latch_rest_lem (pieces t ys)) (list_two xs d h))
-
-  pub rest_three : length xs ≡ 3 → (w v : Piece) (a b : Bool) → w ≡ piece_on t (get_or xs 0 d) → v ≡ piece_on t (get_or xs 2 d) → a ≡ one_of latch_types w.bytes → b ≡ one_of initial_values v.bytes → (a && b) ≡ latch_rest_lem (pieces t xs)
-  rest_three h w v a b e f p q =
-      ap (λ (x : Bool). x && b) (p ∙ ap (λ (y : Piece). one_of latch_types y.bytes) e)
-      ∙ (ap (λ (x : Bool). one_of latch_types (piece_on t (get_or xs 0 d)).bytes && x) (q ∙ ap (λ (y : Piece). one_of initial_values y.bytes) f)
-      ∙ ap (λ (ys : List Span). latch_rest_lem (pieces t ys)) (list_three xs d h))
-
-pub rest_few : (t : List ℕ) (xs : List Span) → latch_rest_lem (pieces t xs) ≡ true → length xs ≤ 3
-rest_few t [] e = omega arith
-rest_few t (a ∷ []) e = omega arith
-rest_few t (a ∷ b ∷ []) e = omega arith
-rest_few t (a ∷ b ∷ c ∷ []) e = omega arith
-rest_few t (a ∷ b ∷ c ∷ f ∷ xs) e = absurd (false≢true e)
+pub end_is : (t : List ℕ) (xs : List Span) → length xs ≡ 0 → ending ≡ end_of (pieces t xs)
+end_is t xs h = ap (λ (ys : List Span). end_of (pieces t ys)) (list_none xs h)
 
 pub front_last : (w : Piece) (ws : List Piece) → w ∷ ws ≡ front_of w ws ++ last_of w ws ∷ []
 front_last w [] = refl
@@ -77,17 +36,10 @@ module _ (t : List ℕ) where
   latch_short (a ∷ []) h = refl
   latch_short (a ∷ b ∷ xs) h = absurd (omega arith)
 
-  pub latch_no : (xs ws : List Span) → 2 ≤ length xs → ws ≡ drop 2 xs → false ≡ latch_rest_lem (pieces t ws) → wrong ≡ latch_of (pieces t xs)
-  latch_no [] ws h q e = absurd (omega arith)
-  latch_no (a ∷ []) ws h q e = absurd (omega arith)
-  latch_no (a ∷ b ∷ xs) ws h q e = sym (cond-false (latch_rest_lem (pieces t xs)) _ _ (sym (e ∙ ap (λ (ys : List Span). latch_rest_lem (pieces t ys)) q)))
-
-  pub latch_yes : (xs ws : List Span) (d : Span) → 2 ≤ length xs → ws ≡ drop 2 xs → true ≡ latch_rest_lem (pieces t ws) → latch (piece_on t (get_or xs 0 d)) (piece_on t (get_or xs 1 d)) (pieces t ws) ≡ latch_of (pieces t xs)
+  pub latch_yes : (xs ws : List Span) (d : Span) → 2 ≤ length xs → ws ≡ drop 2 xs → true ≡ latch_rest (pieces t ws) → latch (piece_on t (get_or xs 0 d)) (piece_on t (get_or xs 1 d)) (pieces t ws) ≡ latch_of (pieces t xs)
   latch_yes [] ws d h q e = absurd (omega arith)
   latch_yes (a ∷ []) ws d h q e = absurd (omega arith)
-  latch_yes (a ∷ b ∷ xs) ws d h q e =
-      ap (λ (ys : List Span). latch (piece_on t a) (piece_on t b) (pieces t ys)) q
-      ∙ sym (cond-true (latch_rest_lem (pieces t xs)) _ _ (sym (e ∙ ap (λ (ys : List Span). latch_rest_lem (pieces t ys)) q)))
+  latch_yes (a ∷ b ∷ xs) ws d h q e = grind arith
 
   pub latch_names : (xs : List Span) (d : Span) → 2 ≤ length xs → pieces t (take 2 xs) ≡ piece_on t (get_or xs 0 d) ∷ piece_on t (get_or xs 1 d) ∷ []
   latch_names [] d h = absurd (omega arith)
@@ -103,10 +55,6 @@ module _ (t : List ℕ) where
   last_is : (a : Span) (xs : List Span) (d : Span) → last_of (piece_on t a) (pieces t xs) ≡ piece_on t (get_or (a ∷ xs) (length xs) d)
   last_is a [] d = refl
   last_is a (b ∷ xs) d = last_is b xs d
-
-  pub gate_none : (xs : List Span) → length xs ≡ 0 → wrong ≡ gate_of (pieces t xs)
-  gate_none [] h = refl
-  gate_none (a ∷ xs) h = absurd (omega arith)
 
   pub gate_is : (xs ps : List Span) (d : Span) → 0 < length xs → ps ≡ take (length xs - 1) xs → gate (pieces t ps) (piece_on t (get_or xs (length xs - 1) d)) ≡ gate_of (pieces t xs)
   gate_is [] ps d h e = absurd (omega arith)

@@ -10,11 +10,11 @@ use Rattle.rows.specs.Rows.{Row}
 use Rattle.text.specs.Text.{Piece}
 use Rattle.netlist.specs.declared.stage.Stage.{Stage}
 use Rattle.netlist.specs.declared.stage.Stage.TheVariants.{Before, Body, Rows, After}
-use Rattle.netlist.specs.Effects.{rowed, add_row_lem, row_at, row_done, done, effect}
+use Rattle.netlist.specs.Effects.{rowed, add_row, row_at, row_done, done, effect}
 use Rattle.netlist.specs.Faults.{State}
-use Rattle.netlist.specs.Signals.{Signal, Driver, undriven, input, latched, gates, number_of, fresh, mention, mention_all_lem, changed, on_named, on_each, no_signal, driven, as_output, as_captured, numbers}
+use Rattle.netlist.specs.Signals.{Signal, Driver, undriven, input, latched, gates, number_of, Known, Mentioned, fresh, mention, mention_all, changed, on_named, on_each, no_signal, driven, as_output, as_captured, numbers}
 use Rattle.netlist.specs.Statements.{Statement, model, inputs, outputs, gate, latch, row, ending, wrong, mentions_of}
-use Rattle.netlist.proofs.Ascending.{mention_ways}
+use Rattle.netlist.proofs.Mentions.{mention_ways}
 
 -- ---- names that are there
 
@@ -22,9 +22,6 @@ pub same_self : (n : List ℕ) → bytes_eq n n ≡ true
 same_self n = (bytes_eq-Decides n n).1 refl
 
 -- the number of a name that is there stays, whatever is mentioned
-abbrev pub Known : List Signal → List ℕ → Type 0
-Known ss n = number_of ss n < length ss
-
 known_cons : (s : Signal) (ss : List Signal) (n : List ℕ) → Known (s ∷ ss) n → (bytes_eq s.name.bytes n ≡ true) ⊎ ((bytes_eq s.name.bytes n ≡ false) × Known ss n)
 known_cons s ss n h =
     ⊎_elim inl (λ f. inr (f, omega (arith, cond-false (bytes_eq s.name.bytes n) 0 (suc (number_of ss n)) f))) (cases_Bool (bytes_eq s.name.bytes n))
@@ -54,14 +51,11 @@ known_here (s ∷ ss) w =
     (λ f. subst (λ (xs : List Signal). Known xs w.bytes) (sym (cond-false (bytes_eq s.name.bytes w.bytes) (s ∷ ss) (s ∷ mention ss w) f)) (omega (arith, known_here ss w, cond-false (bytes_eq s.name.bytes w.bytes) 0 (suc (number_of (mention ss w) w.bytes)) f)))
     (cases_Bool (bytes_eq s.name.bytes w.bytes))
 
-known_all : (ws : List Piece) (ss : List Signal) (n : List ℕ) → Known ss n → Known (mention_all_lem ss ws) n
+known_all : (ws : List Piece) (ss : List Signal) (n : List ℕ) → Known ss n → Known (mention_all ss ws) n
 known_all [] ss n h = h
 known_all (w ∷ ws) ss n h = known_all ws (mention ss w) n (known_more ss w n h)
 
-abbrev pub Mentioned : List Signal → List Piece → Type 0
-Mentioned ss ws = AllByRecursion (λ (w : Piece). Known ss w.bytes) ws
-
-pub mentioned_all : (ws : List Piece) (ss : List Signal) → Mentioned (mention_all_lem ss ws) ws
+pub mentioned_all : (ws : List Piece) (ss : List Signal) → Mentioned (mention_all ss ws) ws
 mentioned_all [] ss = tt
 mentioned_all (w ∷ ws) ss = (known_all ws (mention ss w) w.bytes (known_here ss w), mentioned_all ws (mention ss w))
 
@@ -96,7 +90,7 @@ mention_within ss w x =
     (All-append (SignalWithin (length (ss ++ fresh w ∷ []))) ss (fresh w ∷ []) (All-weaker (SignalWithin (length ss)) (SignalWithin (length (ss ++ fresh w ∷ []))) (λ s. driver_more (length ss) (length (ss ++ fresh w ∷ [])) (omega (arith, length-append ss (fresh w ∷ []))) s.driver) ss x) (tt, tt)))
     (mention_ways ss w)
 
-mentions_within : (ws : List Piece) (ss : List Signal) → Within ss → Within (mention_all_lem ss ws)
+mentions_within : (ws : List Piece) (ss : List Signal) → Within ss → Within (mention_all ss ws)
 mentions_within [] ss x = x
 mentions_within (w ∷ ws) ss x = mentions_within ws (mention ss w) (mention_within ss w x)
 
@@ -121,13 +115,13 @@ rowed_within n input r x = tt
 rowed_within n (latched d ws) r x = x
 rowed_within n (gates ps c) r x = x
 
-row_within : (r : Row) (n : ℕ) → Keeps n (add_row_lem r)
+row_within : (r : Row) (n : ℕ) → Keeps n (add_row r)
 row_within r n s x = rowed_within n s.driver r x
 
 row_at_within : (g : Stage) (ss : List Signal) (r : Row) → Within ss → Within (row_at g ss r)
 row_at_within Before ss r x = x
 row_at_within Body ss r x = x
-row_at_within (Rows k) ss r x = changed_within (add_row_lem r) ss k (row_within r (length ss)) x
+row_at_within (Rows k) ss r x = changed_within (add_row r) ss k (row_within r (length ss)) x
 row_at_within After ss r x = x
 
 row_done_within : (g : Stage) (ss : List Signal) (r : Option Row) → Within ss → Within (row_done g ss r)
@@ -147,4 +141,4 @@ done_within g ss ending m x = x
 done_within g ss wrong m x = x
 
 pub effect_within : (s : State) (st : Statement) → Within s.signals → Within (effect s st).signals
-effect_within s st x = done_within s.stage (mention_all_lem s.signals (mentions_of st)) st (mentioned_all (mentions_of st) s.signals) (mentions_within (mentions_of st) s.signals x)
+effect_within s st x = done_within s.stage (mention_all s.signals (mentions_of st)) st (mentioned_all (mentions_of st) s.signals) (mentions_within (mentions_of st) s.signals x)

@@ -5,7 +5,7 @@ use Rattle.text.specs.Words.{lexeme_of}
 use Rattle.rows.specs.Rows.{Row, no_rows, with_row}
 use Rattle.netlist.specs.declared.stage.Stage.{Stage}
 use Rattle.netlist.specs.declared.stage.Stage.TheVariants.{Before, Body, Rows, After}
-use Rattle.netlist.specs.Signals.{Signal, Driver, undriven, input, latched, gates, number_of, mention_all_lem, changed, on_named, on_each, driven, as_output, as_captured, numbers}
+use Rattle.netlist.specs.Signals.{Signal, Driver, undriven, input, latched, gates, number_of, mention_all, changed, on_named, on_each, driven, as_output, as_captured, numbers}
 use Rattle.netlist.specs.Statements.{Statement, model, inputs, outputs, gate, latch, row, ending, wrong, statement_of, mentions_of}
 use Rattle.netlist.specs.Faults.{State}
 
@@ -19,13 +19,13 @@ rowed input r = input
 rowed (latched d ws) r = latched d ws
 rowed (gates ps c) r = gates ps (with_row r c)
 
-abbrev pub add_row_lem : Row → Signal → Signal
-add_row_lem r s = driven (rowed s.driver r) s
+abbrev pub add_row : Row → Signal → Signal
+add_row r s = driven (rowed s.driver r) s
 
 abbrev pub row_at : Stage → List Signal → Row → List Signal
 row_at Before ss r = ss
 row_at Body ss r = ss
-row_at (Rows g) ss r = changed (add_row_lem r) ss g
+row_at (Rows g) ss r = changed (add_row r) ss g
 row_at After ss r = ss
 
 abbrev pub row_done : Stage → List Signal → Option Row → List Signal
@@ -44,7 +44,7 @@ done s ss ending = state After ss
 done s ss wrong = state s ss
 
 abbrev pub effect : State → Statement → State
-effect s st = done s.stage (mention_all_lem s.signals (mentions_of st)) st
+effect s st = done s.stage (mention_all s.signals (mentions_of st)) st
 
 -- a line without words does nothing
 abbrev pub words_effect : State → List Piece → State

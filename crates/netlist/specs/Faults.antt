@@ -11,7 +11,7 @@ use Rattle.text.specs.Words.{one_of, dotted, lexeme_of, long_names}
 use Rattle.rows.specs.Rows.{Row, row_fits}
 use Rattle.netlist.specs.declared.stage.Stage.{Stage}
 use Rattle.netlist.specs.declared.stage.Stage.TheVariants.{Before, Body, Rows, After}
-use Rattle.netlist.specs.Signals.{Signal, Driver, undriven, input, latched, gates, is_undriven, no_signal, number_of, mention_all_lem}
+use Rattle.netlist.specs.Signals.{Signal, Driver, undriven, input, latched, gates, is_undriven, no_signal, number_of, mention_all}
 use Rattle.netlist.specs.Statements.{Statement, model, inputs, outputs, gate, latch, row, ending, wrong, statement_of, mentions_of, drives_of, names_of}
 
 -- how far the lines have come, and the signals so far
@@ -52,11 +52,11 @@ placed s ending = in_body s
 placed s wrong = false
 
 -- a signal's name has no dot in front
-abbrev pub has_dotted_lem : List Piece → Bool
-has_dotted_lem ws = list_any (λ w. dotted w.bytes) ws
+abbrev pub has_dotted : List Piece → Bool
+has_dotted ws = list_any (λ w. dotted w.bytes) ws
 
 abbrev pub outside : Stage → Statement → Bool
-outside s st = not (placed s st) || has_dotted_lem (mentions_of st)
+outside s st = not (placed s st) || has_dotted (mentions_of st)
 
 -- ---- pins and signals
 
@@ -76,22 +76,22 @@ too_many ss = map (λ (s : Signal). s.name.place) (drop max_signals ss)
 
 -- ---- rows
 
-abbrev pub row_joins_lem : Driver → Row → Bool
-row_joins_lem undriven r = false
-row_joins_lem input r = false
-row_joins_lem (latched d ws) r = false
-row_joins_lem (gates ps c) r = row_fits (length ps) c r
+abbrev pub row_joins : Driver → Row → Bool
+row_joins undriven r = false
+row_joins input r = false
+row_joins (latched d ws) r = false
+row_joins (gates ps c) r = row_fits (length ps) c r
 
 -- a row follows .names or another row
-abbrev pub row_stands_lem : Stage → List Signal → Row → Bool
-row_stands_lem Before ss r = false
-row_stands_lem Body ss r = false
-row_stands_lem (Rows g) ss r = row_joins_lem (slice_index_or ss g no_signal).driver r
-row_stands_lem After ss r = false
+abbrev pub row_stands : Stage → List Signal → Row → Bool
+row_stands Before ss r = false
+row_stands Body ss r = false
+row_stands (Rows g) ss r = row_joins (slice_index_or ss g no_signal).driver r
+row_stands After ss r = false
 
 abbrev pub good_row : Stage → List Signal → Option Row → Bool
 good_row g ss None = false
-good_row g ss (Some r) = row_stands_lem g ss r
+good_row g ss (Some r) = row_stands g ss r
 
 abbrev pub wrong_row : State → Statement → Bool
 wrong_row s (model n) = false
@@ -105,13 +105,13 @@ wrong_row s wrong = false
 
 -- ---- second drivers: of what is driven already, or earlier in this line
 
-abbrev pub has_driver_lem : List Signal → List ℕ → Bool
-has_driver_lem ss n = not (is_undriven (slice_index_or ss (number_of ss n) no_signal).driver)
+abbrev pub has_driver : List Signal → List ℕ → Bool
+has_driver ss n = not (is_undriven (slice_index_or ss (number_of ss n) no_signal).driver)
 
 abbrev pub driven_twice : List Signal → List (List ℕ) → List Piece → List ℕ
 driven_twice ss done [] = []
 driven_twice ss done (w ∷ ws) =
-    cond (has_driver_lem ss w.bytes || one_of done w.bytes) (w.place ∷ driven_twice ss (done ++ w.bytes ∷ []) ws) (driven_twice ss (done ++ w.bytes ∷ []) ws)
+    cond (has_driver ss w.bytes || one_of done w.bytes) (w.place ∷ driven_twice ss (done ++ w.bytes ∷ []) ws) (driven_twice ss (done ++ w.bytes ∷ []) ws)
 
 -- ---- all faults of a line
 
@@ -121,7 +121,7 @@ rule_faults s at st =
     map (fault BadLine) (only_if (outside s.stage st) at)
     ++ (map (fault LongName) (long_names (names_of st))
     ++ (map (fault TooManyPins) (only_if (many_pins st) at)
-    ++ (map (fault TooManySignals) (too_many (mention_all_lem s.signals (mentions_of st)))
+    ++ (map (fault TooManySignals) (too_many (mention_all s.signals (mentions_of st)))
     ++ (map (fault BadRow) (only_if (wrong_row s st) at)
     ++ map (fault SecondDriver) (driven_twice s.signals [] (drives_of st))))))
 

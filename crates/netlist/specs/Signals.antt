@@ -1,9 +1,11 @@
 -- The signals that the lines so far have mentioned.
-use Rattle.std.specs.Prelude.{ℕ, zero, suc, Bool, true, false, cond, List, [], ◌∷◌, map, fold, slice_index_or, slice_set}
+use Rattle.std.specs.Prelude.{ℕ, zero, suc, ◌<◌, Bool, true, false, cond, List, [], ◌∷◌, map, length, fold, slice_index_or, slice_set}
+use Rattle.std.specs.List.{AllByRecursion}
 use Rattle.std.specs.Str.{bytes_eq}
 use Rattle.text.specs.Text.{Piece, piece}
 use Rattle.rows.specs.Rows.{Cover}
 
+-- a type of its own beside the code's, which keeps places of words and packed rows: here are the words and the rows themselves
 pub data Driver : Type 0 where
   undriven : Driver
   input : Driver
@@ -27,13 +29,21 @@ abbrev pub number_of : List Signal → List ℕ → ℕ
 number_of [] n = zero
 number_of (s ∷ ss) n = cond (bytes_eq s.name.bytes n) zero (suc (number_of ss n))
 
+-- the name is a signal's
+abbrev pub Known : List Signal → List ℕ → Type 0
+Known ss n = number_of ss n < length ss
+
+-- and each of these names
+abbrev pub Mentioned : List Signal → List Piece → Type 0
+Mentioned ss ws = AllByRecursion (λ (w : Piece). Known ss w.bytes) ws
+
 -- a name that is new is one signal more
 abbrev pub mention : List Signal → Piece → List Signal
 mention [] w = fresh w ∷ []
 mention (s ∷ ss) w = cond (bytes_eq s.name.bytes w.bytes) (s ∷ ss) (s ∷ mention ss w)
 
-abbrev pub mention_all_lem : List Signal → List Piece → List Signal
-mention_all_lem ss ws = fold mention ss ws
+abbrev pub mention_all : List Signal → List Piece → List Signal
+mention_all ss ws = fold mention ss ws
 
 abbrev pub is_undriven : Driver → Bool
 is_undriven undriven = true

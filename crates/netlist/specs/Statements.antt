@@ -40,18 +40,18 @@ gate_of [] = wrong
 gate_of (w ∷ ws) = gate (front_of w ws) (last_of w ws)
 
 -- after a latch's output: a type and a control or neither, then an initial value or none
-abbrev pub latch_rest_lem : List Piece → Bool
-latch_rest_lem [] = true
-latch_rest_lem (i ∷ []) = one_of initial_values i.bytes
-latch_rest_lem (t ∷ c ∷ []) = one_of latch_types t.bytes
-latch_rest_lem (t ∷ c ∷ i ∷ []) = one_of latch_types t.bytes && one_of initial_values i.bytes
-latch_rest_lem (t ∷ c ∷ i ∷ x ∷ ws) = false
+abbrev pub latch_rest : List Piece → Bool
+latch_rest [] = true
+latch_rest (i ∷ []) = one_of initial_values i.bytes
+latch_rest (t ∷ c ∷ []) = one_of latch_types t.bytes
+latch_rest (t ∷ c ∷ i ∷ []) = one_of latch_types t.bytes && one_of initial_values i.bytes
+latch_rest (t ∷ c ∷ i ∷ x ∷ ws) = false
 
 -- .latch, data and output
 abbrev pub latch_of : List Piece → Statement
 latch_of [] = wrong
 latch_of (d ∷ []) = wrong
-latch_of (d ∷ q ∷ ws) = cond (latch_rest_lem ws) (latch d q ws) wrong
+latch_of (d ∷ q ∷ ws) = cond (latch_rest ws) (latch d q ws) wrong
 
 -- .end alone
 abbrev pub end_of : List Piece → Statement

@@ -1,5 +1,5 @@
 -- What the code's spans, drivers and signals stand for in a text.
-use Rattle.std.specs.Prelude.{ℕ, List, [], ◌∷◌, ◌++◌, map, take, drop, Some, None, Option}
+use Rattle.std.specs.Prelude.{ℕ, List, [], ◌∷◌, ◌++◌, map, take, drop, Some, None, vec_items, Option}
 use Rattle.network.specs.declared.span.Span.{Span}
 use Rattle.network.specs.declared.signal.Driver.{Driver}
 use Rattle.network.specs.declared.signal.Driver.TheVariants.{Undriven, Input, Latched, Gated}
@@ -8,6 +8,7 @@ use Rattle.text.specs.Text.{Piece, piece}
 use Rattle.rows.specs.Views.{cover_on}
 use Rattle.netlist.specs.declared.change.Change.{Change}
 use Rattle.netlist.specs.declared.change.Change.TheVariants.{Drive, Output, Capture}
+use Rattle.netlist.specs.declared.signals.Signals.{Signals}
 use Rattle.netlist.specs.Signals as signals
 
 -- the part of the text
@@ -37,6 +38,9 @@ signal_on text s = record { name = piece_on text s.name; driver = driver_on text
 
 abbrev pub signals_on : List ℕ → List Signal → List signals.Signal
 signals_on text ss = map (signal_on text) ss
+
+abbrev pub signals_in : List ℕ → Signals → List signals.Signal
+signals_in text ss = signals_on text (vec_items ss.items)
 
 abbrev pub bytes_of : List ℕ → List Span → List (List ℕ)
 bytes_of text ws = map (λ w. (piece_on text w).bytes) ws

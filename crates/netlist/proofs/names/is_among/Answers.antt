@@ -1,16 +1,15 @@
-use Rattle.std.proofs.Common.{ap, ◌∙◌}
+use Rattle.std.proofs.Common.{◌∙◌, rules, tests}
+use Rattle.std.proofs.lemmas.Iterator.{YieldsList-from_slice}
+use Rattle.std.proofs.lemmas.Iterator.Search.{any_from_yields_List}
 use Rattle.std.specs.Str.{bytes_eq}
 use Rattle.network.specs.declared.span.Span.{Span}
-use Rattle.text.specs.Text.{Piece}
 use Rattle.netlist.specs.Views.{piece_on}
-use Rattle.netlist.proofs.Passes.{any_more, any_found, any_none, no_span}
+use Rattle.netlist.proofs.Numbering.{any_named}
 use Rattle.netlist.proofs.names.is_among.Goals as goal
 
-pub loop-w-preserved : goal.loop-w-preserved
-loop-w-preserved c = any_more (bytes_eq c.args.name.now) (λ (w : Span). (piece_on c.args.text.now w).bytes) c.args.names.now c.loop-w.w-index _ no_span c.loop-w-test.true (c.if-eq.ensures ∙ ap (λ (p : Piece). bytes_eq c.args.name.now p.bytes) c.word_at.ensures) c.loop-w.invariant
-
-pub returns-then-eq : goal.returns-then-eq
-returns-then-eq c = any_found (bytes_eq c.args.name.now) (λ (w : Span). (piece_on c.args.text.now w).bytes) c.args.names.now c.loop-w.w-index _ no_span c.loop-w-test.true (c.if-eq.ensures ∙ ap (λ (p : Piece). bytes_eq c.args.name.now p.bytes) c.word_at.ensures) c.loop-w.invariant
-
 pub returns : goal.returns
-returns c = any_none (bytes_eq c.args.name.now) (λ (w : Span). (piece_on c.args.text.now w).bytes) c.args.names.now c.loop-w.w-index _ c.loop-w-test.false c.loop-w.invariant
+returns c =
+    let t = c.args.text.now in
+    let n = (piece_on t c.args.name).bytes in
+    any_from_yields_List (λ (w : Span). bytes_eq (piece_on t w).bytes n) _ _ _ c.any.ensures.ran (YieldsList-from_slice c.args.names.now cc) (λ x b q k. search (rules, tests))
+    ∙ any_named t n c.args.names.now

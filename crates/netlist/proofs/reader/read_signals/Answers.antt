@@ -6,10 +6,11 @@ use Rattle.netlist.proofs.reader.read_signals.Goals as goal
 
 pub returns : goal.returns
 returns c =
-    let e : netlist (signals_on c.args.text.now (vec_items c.read_lines.new.signals)) ≡ read c.args.text.now = search rules in
+    let xs = vec_items c.into_inner.result in
+    let e : netlist (signals_on c.args.text.now xs) ≡ read c.args.text.now = search rules in
     record {
       is = e;
-      driven = accepted_driven c.args.text.now (vec_items c.read_lines.new.signals) e;
-      wired = accepted_wired c.args.text.now (vec_items c.read_lines.new.signals) e;
-      latched = accepted_latched c.args.text.now (vec_items c.read_lines.new.signals) e;
+      driven = accepted_driven c.args.text.now xs e;
+      wired = accepted_wired c.args.text.now xs e;
+      latched = accepted_latched c.args.text.now xs e;
     }

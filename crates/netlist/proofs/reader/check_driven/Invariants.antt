@@ -1,7 +1,0 @@
-use Rattle.std.proofs.Common.{◌≡◌, ℕ, List, drop}
-use Rattle.netlist.specs.Reading.{undriven_at}
-use Rattle.netlist.specs.Views.{signals_on}
-use Rattle.netlist.proofs.reader.check_driven.Given as goal
-
-abbrev pub invariant-loop-s : goal.invariant-loop-s
-invariant-loop-s l = (t : List ℕ) → undriven_at (signals_on t (drop l.s-index l.signals)) ≡ undriven_at (signals_on t l.signals)

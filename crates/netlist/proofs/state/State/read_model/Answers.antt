@@ -1,0 +1,12 @@
+use Rattle.std.proofs.Common.{arith, ltb-false, ltb-true}
+use Rattle.netlist.proofs.Shapes.{model_is}
+use Rattle.netlist.proofs.Numbering.{none_many}
+use Rattle.netlist.proofs.Passes.{no_span}
+use Rattle.netlist.proofs.state.State.read_model.Goals as goal
+
+pub returns : goal.returns
+returns c =
+    let t = c.args.text.now in
+    let few = none_many t c.args.self.now.signals in
+    let one = model_is t c.args.rest.now no_span (omega (arith, ltb-true, ltb-false)) in
+    grind arith
