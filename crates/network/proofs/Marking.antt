@@ -1,5 +1,6 @@
 -- Marks on what is downstream of a gate, turn by turn.
 use Rattle.std.proofs.Common.{◌≡◌, ℕ, ◌+◌, ◌<◌, ◌≤◌, Bool, true, false, not, ◌||◌, eqb, List, length, get_or, set, replicate, sym, refl, ap, ◌∙◌, subst, inl, inr, ⊎_elim, arith}
+use Rattle.std.specs.List.{list_any}
 use Rattle.std.proofs.lemmas.List.{get_or-set_same, get_or-set_other, get_or-replicate, get_or_past, length-replicate}
 use Rattle.std.proofs.lemmas.Bool.{cases_eq, cases_lt, cases_Bool, both_ways, not_from_false, or_left, or_right, or_cases, eq-eqb, eqb-true}
 use Rattle.network.specs.Marks.{marked, MarkedBelow, MarksReached}
@@ -7,9 +8,11 @@ use Rattle.network.specs.Net.{signals, size, turn, signal_at_lem, fanin, from}
 use Rattle.network.specs.Reach.{Wire, Reaches, wire, further}
 use Rattle.network.specs.Rewiring.{Downstream}
 use Rattle.network.specs.Tally.{some}
+use Rattle.network.specs.Wiring.{feeders}
 use Rattle.network.specs.declared.network.Network.{Network}
 use Rattle.network.specs.declared.signal.Signal.{Signal}
 use Rattle.network.proofs.Ends.{ends_within, begins_within}
+use Rattle.network.proofs.Pins.{some_feeder}
 use Rattle.network.proofs.Tallies.{some_yes, some_find}
 
 -- the last wire of a way
@@ -29,12 +32,12 @@ marked_other marks s u ne = ap (λ x. not (eqb x 0)) (get_or-set_other marks s u
 
 -- a pin of s reads a marked signal
 abbrev reads : Network → List ℕ → ℕ → Bool
-reads net marks s = some (λ k. marked marks (from net s k)) (fanin net s)
+reads net marks s = list_any (marked marks) (feeders (signals net) s)
 
 -- what reads a marked signal is downstream, if only such signals are marked
 read_reached : (net : Network) (gate s : ℕ) (marks : List ℕ) → ((u : ℕ) → marked marks u ≡ true → Downstream (signals net) gate u) → reads net marks s ≡ true → Downstream (signals net) gate s
 read_reached net gate s marks only e =
-    let found = some_find (λ k. marked marks (from net s k)) (fanin net s) e in
+    let found = some_find (λ k. marked marks (from net s k)) (fanin net s) (sym (some_feeder (marked marks) (signals net) s) ∙ e) in
     let k = found.0 in
     inr (one_further (signals net) gate (from net s k) s (only (from net s k) found.2) (k, found.1, refl))
 
@@ -46,7 +49,7 @@ reached_reads net gate s marks all way =
     let w = last.1 in
     let below : turn net v < turn net s = subst (λ x. turn net x < turn net s) w.2 (net.climbs s w.0 w.1) in
     let there = all v (begins_within (signals net) net.wired v s w) below last.2 in
-    some_yes (λ k. marked marks (from net s k)) (fanin net s) w.0 w.1 (subst (λ x. marked marks x ≡ true) (sym w.2) there)
+    some_feeder (marked marks) (signals net) s ∙ some_yes (λ k. marked marks (from net s k)) (fanin net s) w.0 w.1 (subst (λ x. marked marks x ≡ true) (sym w.2) there)
 
 -- s has the turn t, and the marks below it are right
 module _ (net : Network) (gate t s : ℕ) (marks : List ℕ) (before : MarkedBelow net gate t marks) (here : s < size net) (at : turn net s ≡ t) where
@@ -126,6 +129,7 @@ same_tests false false to back = refl
 -- marked are the gate and what reads a marked signal
 pub marks_fix : (net : Network) (gate : ℕ) (marks : List ℕ) → MarksReached net gate marks → (s : ℕ) → s < size net → marked marks s ≡ (eqb s gate || some (λ k. marked marks (from net s k)) (fanin net s))
 marks_fix net gate marks m s l =
+    let pins = some_feeder (marked marks) (signals net) s in
     same_tests (marked marks s) (eqb s gate || reads net marks s)
     (λ yes'.
     ⊎_elim
@@ -138,3 +142,4 @@ marks_fix net gate marks m s l =
     (λ e. inl (eqb-true s gate e))
     (λ e. read_reached net gate s marks (λ u mu. (m.only u mu).1) e)
     (or_cases (eqb s gate) (reads net marks s) yes')))
+    ∙ ap (λ b. eqb s gate || b) pins

@@ -1,5 +1,5 @@
 // The wires of a list of signals.
-ghost use Rattle.std.specs.Prelude.{◌≡◌, ℕ, ◌<◌, ◌≤◌, length, slice_index};
+ghost use Rattle.std.specs.Prelude.{◌≡◌, ◌<◌, ◌≤◌, All, length};
 ghost use Rattle.network.specs.Limit.{max_signals};
 ghost use Rattle.network.specs.Wiring.{Wired, wires, feeders as feeders_of};
 
@@ -32,7 +32,7 @@ impl<'a> Wires<'a> {
     // The signals at the pins of a signal's gate; none where no gate drives it.
     pub(crate) fn feeders(self, signal: usize) -> &'a [u16]
         ensures is { result.now ≡ feeders_of self.entry.signals.now signal }
-        ensures within { (k : ℕ) → k < length result.now → slice_index result.now k < length self.entry.signals.now }
+        ensures within { All (λ f. f < length self.entry.signals.now) result.now }
     {
         feeders(self.signals, signal)
     }

@@ -1,5 +1,5 @@
 // Turns and wires: for every number, and lean where the number is known to be one.
-ghost use Rattle.std.specs.Prelude.{◌≡◌, ℕ, ◌<◌, length, slice_index};
+ghost use Rattle.std.specs.Prelude.{◌≡◌, ◌<◌, All};
 ghost use Rattle.network.specs.Net.{signals as signals_of, size as size_of, turn as turn_of, signal_at_lem, fanin, from, turn_if, signal_at_if, from_if};
 ghost use Rattle.network.specs.Wiring.{feeders as feeders_of};
 
@@ -50,7 +50,7 @@ impl Network {
     // The signals at the pins of a signal's gate; none where no gate drives it.
     pub(crate) fn feeders(&self, signal: usize) -> &[u16]
         ensures is { result.now ≡ feeders_of (signals_of self.now) signal }
-        ensures within { (k : ℕ) → k < length result.now → slice_index result.now k < size_of self.now }
+        ensures within { All (λ f. f < size_of self.now) result.now }
     {
         let wires = Wires {
             signals: &self.signals,
