@@ -7,13 +7,11 @@ use Rattle.network.specs.Marks.{marked, MarkedBelow, MarksReached}
 use Rattle.network.specs.Net.{signals, size, turn, signal_at_lem, fanin, from}
 use Rattle.network.specs.Reach.{Wire, Reaches, wire, further}
 use Rattle.network.specs.Rewiring.{Downstream}
-use Rattle.network.specs.Tally.{some}
 use Rattle.network.specs.Wiring.{feeders}
 use Rattle.network.specs.declared.network.Network.{Network}
 use Rattle.network.specs.declared.signal.Signal.{Signal}
 use Rattle.network.proofs.Ends.{ends_within, begins_within}
-use Rattle.network.proofs.Pins.{some_feeder}
-use Rattle.network.proofs.Tallies.{some_yes, some_find}
+use Rattle.network.proofs.Pins.{feeder_yes, feeder_found}
 
 -- the last wire of a way
 last_wire : (xs : List Signal) (u s : ℕ) → Reaches (Wire xs) u s → (v : ℕ) × Wire xs v s × Downstream xs u v
@@ -37,7 +35,7 @@ reads net marks s = list_any (marked marks) (feeders (signals net) s)
 -- what reads a marked signal is downstream, if only such signals are marked
 read_reached : (net : Network) (gate s : ℕ) (marks : List ℕ) → ((u : ℕ) → marked marks u ≡ true → Downstream (signals net) gate u) → reads net marks s ≡ true → Downstream (signals net) gate s
 read_reached net gate s marks only e =
-    let found = some_find (λ k. marked marks (from net s k)) (fanin net s) (sym (some_feeder (marked marks) (signals net) s) ∙ e) in
+    let found = feeder_found (marked marks) (signals net) s e in
     let k = found.0 in
     inr (one_further (signals net) gate (from net s k) s (only (from net s k) found.2) (k, found.1, refl))
 
@@ -49,7 +47,7 @@ reached_reads net gate s marks all way =
     let w = last.1 in
     let below : turn net v < turn net s = subst (λ x. turn net x < turn net s) w.2 (net.climbs s w.0 w.1) in
     let there = all v (begins_within (signals net) net.wired v s w) below last.2 in
-    some_feeder (marked marks) (signals net) s ∙ some_yes (λ k. marked marks (from net s k)) (fanin net s) w.0 w.1 (subst (λ x. marked marks x ≡ true) (sym w.2) there)
+    feeder_yes (marked marks) (signals net) s w.0 w.1 (subst (λ x. marked marks x ≡ true) (sym w.2) there)
 
 -- s has the turn t, and the marks below it are right
 module _ (net : Network) (gate t s : ℕ) (marks : List ℕ) (before : MarkedBelow net gate t marks) (here : s < size net) (at : turn net s ≡ t) where
@@ -111,35 +109,3 @@ none_marked net gate marks n e =
 pub marks_closed : (net : Network) (gate : ℕ) (marks : List ℕ) → MarksReached net gate marks → (s k : ℕ) → k < fanin net s → marked marks (from net s k) ≡ true → marked marks s ≡ true
 marks_closed net gate marks m s k l yes' =
     m.all s (ends_within (signals net) s k l) (inr (one_further (signals net) gate (from net s k) s (m.only (from net s k) yes').1 (k, l, refl)))
-
--- past the signals no cell has a mark
-pub marks_past : (net : Network) (gate : ℕ) (marks : List ℕ) → MarksReached net gate marks → (s : ℕ) → size net ≤ s → get_or marks s 0 ≡ 0
-marks_past net gate marks m s past =
-    ⊎_elim
-    (λ yes'. eqb-true (get_or marks s 0) 0 yes')
-    (λ no'. absurd (omega (arith, past, (m.only s (not_from_false (eqb (get_or marks s 0) 0) no')).0)))
-    (cases_Bool (eqb (get_or marks s 0) 0))
-
-same_tests : (a b : Bool) → (a ≡ true → b ≡ true) → (b ≡ true → a ≡ true) → a ≡ b
-same_tests true true to back = refl
-same_tests true false to back = sym (to refl)
-same_tests false true to back = back refl
-same_tests false false to back = refl
-
--- marked are the gate and what reads a marked signal
-pub marks_fix : (net : Network) (gate : ℕ) (marks : List ℕ) → MarksReached net gate marks → (s : ℕ) → s < size net → marked marks s ≡ (eqb s gate || some (λ k. marked marks (from net s k)) (fanin net s))
-marks_fix net gate marks m s l =
-    let pins = some_feeder (marked marks) (signals net) s in
-    same_tests (marked marks s) (eqb s gate || reads net marks s)
-    (λ yes'.
-    ⊎_elim
-    (λ e. or_left (eqb s gate) (reads net marks s) (eq-eqb s gate e))
-    (λ way. or_right (eqb s gate) (reads net marks s) (reached_reads net gate s marks (λ u lu h r. m.all u lu r) way))
-    (m.only s yes').1)
-    (λ yes'.
-    m.all s l
-    (⊎_elim
-    (λ e. inl (eqb-true s gate e))
-    (λ e. read_reached net gate s marks (λ u mu. (m.only u mu).1) e)
-    (or_cases (eqb s gate) (reads net marks s) yes')))
-    ∙ ap (λ b. eqb s gate || b) pins

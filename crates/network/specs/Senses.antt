@@ -1,6 +1,6 @@
 -- How a pin moves its gate.
 use Rattle.std.specs.Prelude.{ℕ, ◌+◌, ◌^◌, Bool, true, false, not, ◌&&◌, nat_lt}
-use Rattle.network.specs.Tally.{some}
+use Rattle.std.specs.List.{list_any, range_with_len}
 use Rattle.network.specs.Truth.{bit, truth}
 use Rattle.network.specs.declared.gate.Gate.{Gate}
 use Rattle.network.specs.declared.sense.Sense.{Sense}
@@ -19,7 +19,7 @@ moves_in_lem gate pin to setting = not (bit setting pin) && goes_to_lem to (trut
 
 -- the pin is there, and does so for some setting of the others
 abbrev pub moves : Gate → ℕ → Bool → Bool
-moves gate pin to = nat_lt pin gate.pin_count && some (moves_in_lem gate pin to) (2 ^ gate.pin_count)
+moves gate pin to = nat_lt pin gate.pin_count && list_any (moves_in_lem gate pin to) (range_with_len 0 (2 ^ gate.pin_count))
 
 -- for some setting of the others, switching the pin from 0 to 1 takes the gate from 0 to 1
 abbrev pub raises : Gate → ℕ → Bool
