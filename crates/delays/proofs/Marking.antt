@@ -4,7 +4,7 @@ use Rattle.std.proofs.lemmas.List.{length-set, length-replicate, get_or-set_same
 use Rattle.std.proofs.lemmas.Bool.{ltb-true, eq-eqb, cases_eq, and_parts, and_from, or_left}
 use Rattle.std.proofs.lemmas.Bool.Decides.{nat_tests}
 use Rattle.network.specs.Net.{signals}
-use Rattle.network.specs.Wiring.{pin_count_lem, driver}
+use Rattle.network.specs.Wiring.{number_of_pins, driver}
 use Rattle.network.specs.declared.network.Network.{Network}
 use Rattle.network.specs.declared.signal.Driver.{Driver}
 use Rattle.network.specs.declared.signal.Driver.TheVariants.{Undriven, Input, Latched, Gated}
@@ -20,7 +20,7 @@ pub record Small (outline : Outline) : Type 0 where
   pub signals : outline.signals ≤ 255
   pub pins : (s : ℕ) → outline.pins s ≤ 4
 
-few : (d : Driver) → pin_count_lem d ≤ 4
+few : (d : Driver) → number_of_pins d ≤ 4
 few Undriven = omega arith
 few Input = omega arith
 few (Latched l) = omega arith

@@ -6,7 +6,7 @@ use Rattle.std.proofs.ByRecursion.{All-get_or}
 use Rattle.std.proofs.lemmas.List.{append_assoc, append-nil, get_or-map, get_or_past, get_or-take, length-map}
 use Rattle.std.proofs.lemmas.Bool.{cases_Bool, cases_lt, cond-true, cond-false, not-false}
 use Rattle.fault.specs.declared.refusal.Refusal.{Refusal}
-use Rattle.network.specs.Wiring.{Driven, Wired, LatchesWired, absent, is_driven_lem, pin_count_lem, signal_at_pin, Captures}
+use Rattle.network.specs.Wiring.{Driven, Wired, LatchesWired, absent, is_driven_of, number_of_pins, signal_at_pin, Captures}
 use Rattle.network.specs.declared.signal.Driver as code
 use Rattle.network.specs.declared.signal.Driver.TheVariants.{Undriven, Input, Latched, Gated}
 use Rattle.network.specs.declared.signal.Signal as codes
@@ -145,7 +145,7 @@ module _ (text : List ℕ) (cs : List codes.Signal) where
       (subst (λ (m : ℕ). DriverWithin m (get_or (signals_on text cs) s no_signal).driver) n
       (All-get_or (λ (z : Signal). DriverWithin (length (signals_on text cs)) z.driver) (signals_on text cs) s no_signal (omega (arith, n)) x))
 
-  pins_within : (n k : ℕ) (d : code.Driver) → DriverWithin n (driver_on text d) → k < pin_count_lem d → signal_at_pin d k < n
+  pins_within : (n k : ℕ) (d : code.Driver) → DriverWithin n (driver_on text d) → k < number_of_pins d → signal_at_pin d k < n
   pins_within n k Undriven x h = absurd (omega arith)
   pins_within n k Input x h = absurd (omega arith)
   pins_within n k (Latched l) x h = absurd (omega arith)
@@ -164,7 +164,7 @@ module _ (text : List ℕ) (cs : List codes.Signal) where
 
   wired : Within (signals_on text cs) → Wired cs
   wired x s k h =
-      ⊎_elim (λ l. pins_within (length cs) k (At s) (driver_at s x l) h) (λ l. absurd (omega (arith, h, ap pin_count_lem (past_none s l)))) (cases_lt s (length cs))
+      ⊎_elim (λ l. pins_within (length cs) k (At s) (driver_at s x l) h) (λ l. absurd (omega (arith, h, ap number_of_pins (past_none s l)))) (cases_lt s (length cs))
 
   latches_wired : Within (signals_on text cs) → LatchesWired cs
   latches_wired x s k h =
@@ -173,7 +173,7 @@ module _ (text : List ℕ) (cs : List codes.Signal) where
   driven : undriven_at (signals_on text cs) ≡ [] → Driven cs
   driven e s h =
       let u = All-get_or (λ (z : Signal). is_undriven z.driver ≡ false) (signals_on text cs) s no_signal (omega (arith, length-map cs (signal_on text))) (none_undriven (signals_on text cs) e) in
-      not-false (is_driven_lem (At s)) (sym (undriven_is text (At s)) ∙ (ap (λ (z : Signal). is_undriven z.driver) (sym (get_or-map (signal_on text) cs s absent no_signal h)) ∙ u))
+      not-false (is_driven_of (At s)) (sym (undriven_is text (At s)) ∙ (ap (λ (z : Signal). is_undriven z.driver) (sym (get_or-map (signal_on text) cs s absent no_signal h)) ∙ u))
 
   pub accepted_driven : netlist (signals_on text cs) ≡ read text → Driven cs
   accepted_driven e = driven (accepted text (signals_on text cs) (sym e)).1.1.1

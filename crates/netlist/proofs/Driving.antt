@@ -17,7 +17,7 @@ use Rattle.netlist.specs.Reading.{step, ongoing}
 use Rattle.netlist.specs.Signals.{Signal, mention_all_lem}
 use Rattle.netlist.specs.Statements.{Statement, statement_of, mentions_of, drives_of, names_of}
 use Rattle.netlist.proofs.Accepting.{cons_nil, step_ongoing, all_lines, accepted}
-use Rattle.netlist.proofs.Endings.{is_driven_lem, any_append, in_lines, lines_push, line_turns, driven_turns}
+use Rattle.netlist.proofs.Endings.{is_driven_of, any_append, in_lines, lines_push, line_turns, driven_turns}
 use Rattle.netlist.proofs.Looking.{look}
 
 -- ---- no faults at all, so none of each cause
@@ -98,7 +98,7 @@ module _ (ss : List Signal) (n : List ℕ) where
 -- ---- line after line: as many words drive n as it has drivers, one or none
 
 abbrev Counted : List Piece → State → Type 0
-Counted past s = (n : List ℕ) → count_by (named n) (in_lines drives_of past) ≡ one (look is_driven_lem s.signals n)
+Counted past s = (n : List ℕ) → count_by (named n) (in_lines drives_of past) ≡ one (look is_driven_of s.signals n)
 
 add_one : (a b : Bool) (k : ℕ) → k ≡ one a → (b ≡ true → a ≡ false) → one b + k ≡ one (a || b)
 add_one true true k e h = absurd (false≢true (sym (h refl)))
@@ -113,10 +113,10 @@ counted_more past line s now e x n =
     ap (count_by (named n)) (lines_push drives_of past line)
     ∙ (sum_by-append (λ (w : Piece). one (named n w)) (in_lines drives_of past) ds
     ∙ (ap (λ (k : ℕ). k + count_by (named n) ds) (x n)
-    ∙ (add_one (any_of (named n) ds) (look is_driven_lem s.signals n) (count_by (named n) ds) o.0 (λ t. o.1 (or_left (has_driver_lem s.signals n) false t))
-    ∙ sym (ap one (line_turns is_driven_lem drives_of driven_turns (λ m. refl) s line now n e)))))
+    ∙ (add_one (any_of (named n) ds) (look is_driven_of s.signals n) (count_by (named n) ds) o.0 (λ t. o.1 (or_left (has_driver_lem s.signals n) false t))
+    ∙ sym (ap one (line_turns is_driven_of drives_of driven_turns (λ m. refl) s line now n e)))))
 
-pub text_drivers : (text : List ℕ) (ss : List Signal) → Accepted text ss → (n : List ℕ) → count_by (named n) (words_in drives_of text) ≡ one (look is_driven_lem ss n)
+pub text_drivers : (text : List ℕ) (ss : List Signal) → Accepted text ss → (n : List ℕ) → count_by (named n) (words_in drives_of text) ≡ one (look is_driven_of ss n)
 text_drivers text ss e n =
     let a = accepted text ss e in
-    all_lines Counted counted_more (lines 0 text) [] (state Before []) a.0 a.1.0 (λ m. refl) n ∙ ap (λ (xs : List Signal). one (look is_driven_lem xs n)) a.1.1.0
+    all_lines Counted counted_more (lines 0 text) [] (state Before []) a.0 a.1.0 (λ m. refl) n ∙ ap (λ (xs : List Signal). one (look is_driven_of xs n)) a.1.1.0

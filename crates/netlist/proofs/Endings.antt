@@ -20,14 +20,14 @@ use Rattle.netlist.proofs.Within.{Known, Mentioned, mentioned_all, mentioned_par
 
 -- ---- tests
 
-abbrev pub is_driven_lem : Signal → Bool
-is_driven_lem s = not (is_undriven s.driver)
+abbrev pub is_driven_of : Signal → Bool
+is_driven_of s = not (is_undriven s.driver)
 
-abbrev is_output_lem : Signal → Bool
-is_output_lem s = s.output
+abbrev is_output_of : Signal → Bool
+is_output_of s = s.output
 
-abbrev is_captured_lem : Signal → Bool
-is_captured_lem s = s.captured
+abbrev is_captured_of : Signal → Bool
+is_captured_of s = s.captured
 
 or_false : (a : Bool) → (a || false) ≡ a
 or_false true = refl
@@ -100,60 +100,60 @@ module _ (s : State) (n : List ℕ) where
   known : (st : Statement) → Mentioned (Now st) (mentions_of st)
   known st = mentioned_all (mentions_of st) s.signals
 
-  old_driven : (st : Statement) → look is_driven_lem (Now st) n ≡ look is_driven_lem s.signals n
-  old_driven st = mentions_look is_driven_lem (λ w. refl) (mentions_of st) s.signals n
+  old_driven : (st : Statement) → look is_driven_of (Now st) n ≡ look is_driven_of s.signals n
+  old_driven st = mentions_look is_driven_of (λ w. refl) (mentions_of st) s.signals n
 
-  old_output : (st : Statement) → look is_output_lem (Now st) n ≡ look is_output_lem s.signals n
-  old_output st = mentions_look is_output_lem (λ w. refl) (mentions_of st) s.signals n
+  old_output : (st : Statement) → look is_output_of (Now st) n ≡ look is_output_of s.signals n
+  old_output st = mentions_look is_output_of (λ w. refl) (mentions_of st) s.signals n
 
-  old_captured : (st : Statement) → look is_captured_lem (Now st) n ≡ look is_captured_lem s.signals n
-  old_captured st = mentions_look is_captured_lem (λ w. refl) (mentions_of st) s.signals n
+  old_captured : (st : Statement) → look is_captured_of (Now st) n ≡ look is_captured_of s.signals n
+  old_captured st = mentions_look is_captured_of (λ w. refl) (mentions_of st) s.signals n
 
   after : (f : Signal → Bool) (ws : List Piece) (st : Statement) → look f (Now st) n ≡ look f s.signals n → (any_of (named n) ws || look f (Now st) n) ≡ (any_of (named n) ws || look f s.signals n)
   after f ws st e = ap (λ (b : Bool). any_of (named n) ws || b) e
 
-pub driven_turns : Turns is_driven_lem drives_of
+pub driven_turns : Turns is_driven_of drives_of
 driven_turns s (model m) n = refl
-driven_turns s (inputs ns) n = each_set is_driven_lem (driven input) (λ z. refl) (λ z. refl) ns (Now s n (inputs ns)) n (known s n (inputs ns)) ∙ after s n is_driven_lem ns (inputs ns) (old_driven s n (inputs ns))
-driven_turns s (outputs ns) n = each_kept is_driven_lem as_output (λ z. refl) (λ z. refl) ns (Now s n (outputs ns)) n ∙ old_driven s n (outputs ns)
+driven_turns s (inputs ns) n = each_set is_driven_of (driven input) (λ z. refl) (λ z. refl) ns (Now s n (inputs ns)) n (known s n (inputs ns)) ∙ after s n is_driven_of ns (inputs ns) (old_driven s n (inputs ns))
+driven_turns s (outputs ns) n = each_kept is_driven_of as_output (λ z. refl) (λ z. refl) ns (Now s n (outputs ns)) n ∙ old_driven s n (outputs ns)
 driven_turns s (gate ps q) n =
-    one_set is_driven_lem (driven (gates (numbers (Now s n (gate ps q)) ps) _)) (λ z. refl) (λ z. refl) q (Now s n (gate ps q)) n (mentioned_parts (Now s n (gate ps q)) ps (q ∷ []) (known s n (gate ps q))).1.0
-    ∙ after s n is_driven_lem (q ∷ []) (gate ps q) (old_driven s n (gate ps q))
+    one_set is_driven_of (driven (gates (numbers (Now s n (gate ps q)) ps) _)) (λ z. refl) (λ z. refl) q (Now s n (gate ps q)) n (mentioned_parts (Now s n (gate ps q)) ps (q ∷ []) (known s n (gate ps q))).1.0
+    ∙ after s n is_driven_of (q ∷ []) (gate ps q) (old_driven s n (gate ps q))
 driven_turns s (latch d q ws) n =
     let now = Now s n (latch d q ws) in
     let mid = on_named (driven (latched (number_of now d.bytes) ws)) now q in
-    look_kept is_driven_lem as_captured (λ z. refl) (λ z. refl) mid (number_of mid d.bytes) n
-    ∙ (one_set is_driven_lem (driven (latched (number_of now d.bytes) ws)) (λ z. refl) (λ z. refl) q now n (known s n (latch d q ws)).1.0 ∙ after s n is_driven_lem (q ∷ []) (latch d q ws) (old_driven s n (latch d q ws)))
-driven_turns s (row r) n = rows_kept is_driven_lem (λ x z. ap not (rowed_driven z.driver x)) s.stage s.signals r n
+    look_kept is_driven_of as_captured (λ z. refl) (λ z. refl) mid (number_of mid d.bytes) n
+    ∙ (one_set is_driven_of (driven (latched (number_of now d.bytes) ws)) (λ z. refl) (λ z. refl) q now n (known s n (latch d q ws)).1.0 ∙ after s n is_driven_of (q ∷ []) (latch d q ws) (old_driven s n (latch d q ws)))
+driven_turns s (row r) n = rows_kept is_driven_of (λ x z. ap not (rowed_driven z.driver x)) s.stage s.signals r n
 driven_turns s ending n = refl
 driven_turns s wrong n = refl
 
-output_turns : Turns is_output_lem outputs_of
+output_turns : Turns is_output_of outputs_of
 output_turns s (model m) n = refl
-output_turns s (inputs ns) n = each_kept is_output_lem (driven input) (λ z. refl) (λ z. refl) ns (Now s n (inputs ns)) n ∙ old_output s n (inputs ns)
-output_turns s (outputs ns) n = each_set is_output_lem as_output (λ z. refl) (λ z. refl) ns (Now s n (outputs ns)) n (known s n (outputs ns)) ∙ after s n is_output_lem ns (outputs ns) (old_output s n (outputs ns))
-output_turns s (gate ps q) n = look_kept is_output_lem (driven (gates (numbers (Now s n (gate ps q)) ps) _)) (λ z. refl) (λ z. refl) (Now s n (gate ps q)) (number_of (Now s n (gate ps q)) q.bytes) n ∙ old_output s n (gate ps q)
+output_turns s (inputs ns) n = each_kept is_output_of (driven input) (λ z. refl) (λ z. refl) ns (Now s n (inputs ns)) n ∙ old_output s n (inputs ns)
+output_turns s (outputs ns) n = each_set is_output_of as_output (λ z. refl) (λ z. refl) ns (Now s n (outputs ns)) n (known s n (outputs ns)) ∙ after s n is_output_of ns (outputs ns) (old_output s n (outputs ns))
+output_turns s (gate ps q) n = look_kept is_output_of (driven (gates (numbers (Now s n (gate ps q)) ps) _)) (λ z. refl) (λ z. refl) (Now s n (gate ps q)) (number_of (Now s n (gate ps q)) q.bytes) n ∙ old_output s n (gate ps q)
 output_turns s (latch d q ws) n =
     let now = Now s n (latch d q ws) in
     let mid = on_named (driven (latched (number_of now d.bytes) ws)) now q in
-    look_kept is_output_lem as_captured (λ z. refl) (λ z. refl) mid (number_of mid d.bytes) n
-    ∙ (look_kept is_output_lem (driven (latched (number_of now d.bytes) ws)) (λ z. refl) (λ z. refl) now (number_of now q.bytes) n ∙ old_output s n (latch d q ws))
-output_turns s (row r) n = rows_kept is_output_lem (λ x z. refl) s.stage s.signals r n
+    look_kept is_output_of as_captured (λ z. refl) (λ z. refl) mid (number_of mid d.bytes) n
+    ∙ (look_kept is_output_of (driven (latched (number_of now d.bytes) ws)) (λ z. refl) (λ z. refl) now (number_of now q.bytes) n ∙ old_output s n (latch d q ws))
+output_turns s (row r) n = rows_kept is_output_of (λ x z. refl) s.stage s.signals r n
 output_turns s ending n = refl
 output_turns s wrong n = refl
 
-captured_turns : Turns is_captured_lem data_of
+captured_turns : Turns is_captured_of data_of
 captured_turns s (model m) n = refl
-captured_turns s (inputs ns) n = each_kept is_captured_lem (driven input) (λ z. refl) (λ z. refl) ns (Now s n (inputs ns)) n ∙ old_captured s n (inputs ns)
-captured_turns s (outputs ns) n = each_kept is_captured_lem as_output (λ z. refl) (λ z. refl) ns (Now s n (outputs ns)) n ∙ old_captured s n (outputs ns)
-captured_turns s (gate ps q) n = look_kept is_captured_lem (driven (gates (numbers (Now s n (gate ps q)) ps) _)) (λ z. refl) (λ z. refl) (Now s n (gate ps q)) (number_of (Now s n (gate ps q)) q.bytes) n ∙ old_captured s n (gate ps q)
+captured_turns s (inputs ns) n = each_kept is_captured_of (driven input) (λ z. refl) (λ z. refl) ns (Now s n (inputs ns)) n ∙ old_captured s n (inputs ns)
+captured_turns s (outputs ns) n = each_kept is_captured_of as_output (λ z. refl) (λ z. refl) ns (Now s n (outputs ns)) n ∙ old_captured s n (outputs ns)
+captured_turns s (gate ps q) n = look_kept is_captured_of (driven (gates (numbers (Now s n (gate ps q)) ps) _)) (λ z. refl) (λ z. refl) (Now s n (gate ps q)) (number_of (Now s n (gate ps q)) q.bytes) n ∙ old_captured s n (gate ps q)
 captured_turns s (latch d q ws) n =
     let now = Now s n (latch d q ws) in
     let g = driven (latched (number_of now d.bytes) ws) in
     let mid = on_named g now q in
-    one_set is_captured_lem as_captured (λ z. refl) (λ z. refl) d mid n (omega (arith, (known s n (latch d q ws)).0, number_kept g (λ z. refl) now (number_of now q.bytes) d.bytes, length-set now (number_of now q.bytes) (g (get_or now (number_of now q.bytes) no_signal))))
-    ∙ ap (λ (b : Bool). any_of (named n) (d ∷ []) || b) (look_kept is_captured_lem g (λ z. refl) (λ z. refl) now (number_of now q.bytes) n ∙ old_captured s n (latch d q ws))
-captured_turns s (row r) n = rows_kept is_captured_lem (λ x z. refl) s.stage s.signals r n
+    one_set is_captured_of as_captured (λ z. refl) (λ z. refl) d mid n (omega (arith, (known s n (latch d q ws)).0, number_kept g (λ z. refl) now (number_of now q.bytes) d.bytes, length-set now (number_of now q.bytes) (g (get_or now (number_of now q.bytes) no_signal))))
+    ∙ ap (λ (b : Bool). any_of (named n) (d ∷ []) || b) (look_kept is_captured_of g (λ z. refl) (λ z. refl) now (number_of now q.bytes) n ∙ old_captured s n (latch d q ws))
+captured_turns s (row r) n = rows_kept is_captured_of (λ x z. refl) s.stage s.signals r n
 captured_turns s ending n = refl
 captured_turns s wrong n = refl
 
@@ -188,8 +188,8 @@ module _ (f : Signal → Bool) (part : Statement → List Piece) (turns : Turns 
       let a = accepted text ss e in
       ap (λ (xs : List Signal). look f xs n) (sym a.1.1.0) ∙ all_lines So again (lines 0 text) [] (state Before []) a.0 a.1.0 start n
 
-pub text_outputs : (text : List ℕ) (ss : List Signal) → Accepted text ss → (n : List ℕ) → look is_output_lem ss n ≡ any_of (named n) (words_in outputs_of text)
-text_outputs = text_turns is_output_lem outputs_of output_turns (λ n. refl)
+pub text_outputs : (text : List ℕ) (ss : List Signal) → Accepted text ss → (n : List ℕ) → look is_output_of ss n ≡ any_of (named n) (words_in outputs_of text)
+text_outputs = text_turns is_output_of outputs_of output_turns (λ n. refl)
 
-pub text_captures : (text : List ℕ) (ss : List Signal) → Accepted text ss → (n : List ℕ) → look is_captured_lem ss n ≡ any_of (named n) (words_in data_of text)
-text_captures = text_turns is_captured_lem data_of captured_turns (λ n. refl)
+pub text_captures : (text : List ℕ) (ss : List Signal) → Accepted text ss → (n : List ℕ) → look is_captured_of ss n ≡ any_of (named n) (words_in data_of text)
+text_captures = text_turns is_captured_of data_of captured_turns (λ n. refl)

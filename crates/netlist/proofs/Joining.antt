@@ -2,7 +2,7 @@
 use Rattle.std.proofs.Common.{◌≡◌, ℕ, zero, suc, ◌<◌, List, [], ◌∷◌, length, get_or, sym, refl, ap, ◌∙◌, subst, arith, length-take-le, get_or-take}
 use Rattle.network.specs.Reach as net
 use Rattle.network.specs.Reach.{Reaches, wire, further}
-use Rattle.network.specs.Wiring.{absent, driver, pin_count_lem, signal_at_pin}
+use Rattle.network.specs.Wiring.{absent, driver, number_of_pins, signal_at_pin}
 use Rattle.network.specs.declared.signal.Driver.{Driver}
 use Rattle.network.specs.declared.signal.Driver.TheVariants.{Undriven, Input, Latched, Gated}
 use Rattle.network.specs.declared.signal.Signal.{Signal}
@@ -26,28 +26,28 @@ module _ (text : List ℕ) where
   place_on (x ∷ xs) zero = refl
   place_on (x ∷ xs) (suc s) = place_on xs s
 
-  count_on : (d : Driver) → length (pins_of (driver_on text d)) ≡ pin_count_lem d
+  count_on : (d : Driver) → length (pins_of (driver_on text d)) ≡ number_of_pins d
   count_on Undriven = refl
   count_on Input = refl
   count_on (Latched l) = refl
   count_on (Gated g) = length-take-le g.pin_count g.pins (omega (arith, g.few, g.wide))
 
-  pin_on : (d : Driver) (k : ℕ) → k < pin_count_lem d → get_or (pins_of (driver_on text d)) k 0 ≡ signal_at_pin d k
+  pin_on : (d : Driver) (k : ℕ) → k < number_of_pins d → get_or (pins_of (driver_on text d)) k 0 ≡ signal_at_pin d k
   pin_on Undriven k h = absurd (omega arith)
   pin_on Input k h = absurd (omega arith)
   pin_on (Latched l) k h = absurd (omega arith)
   pin_on (Gated g) k h = get_or-take g.pin_count g.pins k 0 h
 
   module _ (xs : List Signal) where
-    count_at : (s : ℕ) → length (pins_at (signals_on text xs) s) ≡ pin_count_lem (driver xs s)
+    count_at : (s : ℕ) → length (pins_at (signals_on text xs) s) ≡ number_of_pins (driver xs s)
     count_at s = ap (λ d. length (pins_of d)) (driver_on_lem xs s) ∙ count_on (driver xs s)
 
-    pin_at : (s k : ℕ) → k < pin_count_lem (driver xs s) → get_or (pins_at (signals_on text xs) s) k 0 ≡ signal_at_pin (driver xs s) k
+    pin_at : (s k : ℕ) → k < number_of_pins (driver xs s) → get_or (pins_at (signals_on text xs) s) k 0 ≡ signal_at_pin (driver xs s) k
     pin_at s k h = ap (λ d. get_or (pins_of d) k 0) (driver_on_lem xs s) ∙ pin_on (driver xs s) k h
 
     to_net : (u s : ℕ) → Wire (signals_on text xs) u s → net.Wire xs u s
     to_net u s w =
-        let h : w.0 < pin_count_lem (driver xs s) = subst (λ n. w.0 < n) (count_at s) w.1 in
+        let h : w.0 < number_of_pins (driver xs s) = subst (λ n. w.0 < n) (count_at s) w.1 in
         (w.0, h, sym (pin_at s w.0 h) ∙ w.2)
 
     of_net : (u s : ℕ) → net.Wire xs u s → Wire (signals_on text xs) u s

@@ -7,15 +7,15 @@ use Rattle.netlist.specs.Signals.{Signal, is_undriven}
 use Rattle.netlist.specs.Statements.{drives_of}
 use Rattle.netlist.proofs.Accepting.{accepted, none_undriven}
 use Rattle.netlist.proofs.Driving.{text_drivers}
-use Rattle.netlist.proofs.Endings.{is_driven_lem, text_outputs, text_captures}
+use Rattle.netlist.proofs.Endings.{is_driven_of, text_outputs, text_captures}
 use Rattle.netlist.proofs.Looking.{look}
 use Rattle.netlist.proofs.Naming.{both, text_apart, look_own, names_climb, names_mentioned, mentions_named}
 
 pub one_driver : OneDriver
 one_driver text ss e =
-    All-weaker (λ (s : Signal). (is_undriven s.driver ≡ false) × (look is_driven_lem ss s.name.bytes ≡ is_driven_lem s)) (λ (s : Signal). count_by (named s.name.bytes) (words_in drives_of text) ≡ 1)
+    All-weaker (λ (s : Signal). (is_undriven s.driver ≡ false) × (look is_driven_of ss s.name.bytes ≡ is_driven_of s)) (λ (s : Signal). count_by (named s.name.bytes) (words_in drives_of text) ≡ 1)
     (λ s q. text_drivers text ss e s.name.bytes ∙ ap (λ (b : Bool). cond b 1 0) (q.1 ∙ ap not q.0)) ss
-    (both (λ (s : Signal). is_undriven s.driver ≡ false) (λ (s : Signal). look is_driven_lem ss s.name.bytes ≡ is_driven_lem s) ss (none_undriven ss (accepted text ss e).1.1.1) (look_own is_driven_lem ss (text_apart text ss e)))
+    (both (λ (s : Signal). is_undriven s.driver ≡ false) (λ (s : Signal). look is_driven_of ss s.name.bytes ≡ is_driven_of s) ss (none_undriven ss (accepted text ss e).1.1.1) (look_own is_driven_of ss (text_apart text ss e)))
 
 pub endpoints : Endpoints
 endpoints text ss e =

@@ -7,7 +7,7 @@ use Rattle.text.specs.Text.{Piece, piece}
 use Rattle.text.specs.declared.word.Command.{Command}
 use Rattle.text.specs.Words.{any_of, one_of, dotted, command_named_lem, known, lexeme_of, is_long, long_names, Lexeme, keyword, unknown, plain}
 use Rattle.network.specs.declared.span.Span.{Span}
-use Rattle.network.specs.Wiring.{is_driven_lem}
+use Rattle.network.specs.Wiring.{is_driven_of}
 use Rattle.network.specs.declared.signal.Signal.{Signal}
 use Rattle.network.specs.declared.signal.Driver.{Driver}
 use Rattle.network.specs.declared.signal.Driver.TheVariants.{Undriven, Input, Latched, Gated}
@@ -106,7 +106,7 @@ module _ (t : List ℕ) (ss : List Signal) (n : List ℕ) (i : ℕ) (r : ℕ) wh
 
 -- ---- drivers
 
-pub undriven_is : (t : List ℕ) (d : Driver) → is_undriven (driver_on t d) ≡ not (is_driven_lem d)
+pub undriven_is : (t : List ℕ) (d : Driver) → is_undriven (driver_on t d) ≡ not (is_driven_of d)
 undriven_is t Undriven = refl
 undriven_is t Input = refl
 undriven_is t (Latched l) = refl
@@ -117,7 +117,7 @@ not_not true = refl
 not_not false = refl
 
 module _ (t : List ℕ) (ss : List Signal) (n : List ℕ) (k : ℕ) (e : k ≡ number_of (signals_on t ss) n) where
-  pub driver_yes : (x : Signal) → k < length ss → x ≡ get_or ss k x → is_driven_lem x.driver ≡ has_driver_lem (signals_on t ss) n
+  pub driver_yes : (x : Signal) → k < length ss → x ≡ get_or ss k x → is_driven_of x.driver ≡ has_driver_lem (signals_on t ss) n
   driver_yes x h a =
       not_not _ ∙ (ap not (sym (undriven_is t x.driver))
       ∙ (ap (λ (s : spec.Signal). not (is_undriven s.driver)) (ap (signal_on t) a ∙ sym (get_or-map (signal_on t) ss k x no_signal h))

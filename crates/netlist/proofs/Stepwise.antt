@@ -6,7 +6,7 @@ use Rattle.fault.specs.declared.cause.Cause.TheVariants as cause
 use Rattle.fault.specs.declared.refusal.Refusal.{Refusal}
 use Rattle.network.specs.Limit.{max_signals}
 use Rattle.network.specs.declared.span.Span.{Span}
-use Rattle.network.specs.Wiring.{is_driven_lem}
+use Rattle.network.specs.Wiring.{is_driven_of}
 use Rattle.network.specs.declared.signal.Signal as code
 use Rattle.text.specs.Refusals as words
 use Rattle.text.specs.Refusals.{refusing}
@@ -105,16 +105,16 @@ module _ (t : List ℕ) (ss : List code.Signal) (i : ℕ) where
   abbrev Kept : List Signal
   Kept = filter (λ (s : Signal). is_undriven s.driver) (signals_on t (drop (i + 1) ss))
 
-  kept_at : (x : code.Signal) (b : Bool) → i < length ss → x ≡ get_or ss i x → b ≡ is_driven_lem x.driver → undriven_at (signals_on t (drop i ss)) ≡ map (λ (s : Signal). s.name.place) (cond (not b) (signal_on t x ∷ Kept) Kept)
+  kept_at : (x : code.Signal) (b : Bool) → i < length ss → x ≡ get_or ss i x → b ≡ is_driven_of x.driver → undriven_at (signals_on t (drop i ss)) ≡ map (λ (s : Signal). s.name.place) (cond (not b) (signal_on t x ∷ Kept) Kept)
   kept_at x b h e q =
       at_drop_more (λ ys. undriven_at (signals_on t ys)) ss i x h
       ∙ sym (ap (λ (c : Bool). map (λ (s : Signal). s.name.place) (cond c (signal_on t x ∷ Kept) Kept)) (ap not q ∙ sym (undriven_is t x.driver))
       ∙ ap (λ (y : code.Signal). map (λ (s : Signal). s.name.place) (cond (is_undriven (signal_on t y).driver) (signal_on t y ∷ Kept) Kept)) e)
 
-  pub driven_on : (x : code.Signal) → i < length ss → x ≡ get_or ss i x → true ≡ is_driven_lem x.driver → undriven_at (signals_on t (drop i ss)) ≡ undriven_at (signals_on t (drop (i + 1) ss))
+  pub driven_on : (x : code.Signal) → i < length ss → x ≡ get_or ss i x → true ≡ is_driven_of x.driver → undriven_at (signals_on t (drop i ss)) ≡ undriven_at (signals_on t (drop (i + 1) ss))
   driven_on x h e q = kept_at x true h e q
 
-  pub undriven_here : (x : code.Signal) → i < length ss → x ≡ get_or ss i x → false ≡ is_driven_lem x.driver → undriven_at (signals_on t (drop i ss)) ≡ x.name.at ∷ undriven_at (signals_on t (drop (i + 1) ss))
+  pub undriven_here : (x : code.Signal) → i < length ss → x ≡ get_or ss i x → false ≡ is_driven_of x.driver → undriven_at (signals_on t (drop i ss)) ≡ x.name.at ∷ undriven_at (signals_on t (drop (i + 1) ss))
   undriven_here x h e q = kept_at x false h e q
 
   pub all_driven_lem : length ss ≤ i → undriven_at (signals_on t (drop i ss)) ≡ []

@@ -4,7 +4,7 @@ ghost use Rattle.text.specs.Refusals.{refusing};
 ghost use Rattle.text.specs.Words.{one_of, long_names};
 ghost use Rattle.text.specs.declared.word_fault.WordFault.TheVariants as words;
 ghost use Rattle.fault.specs.declared.cause.Cause.TheVariants as cause;
-ghost use Rattle.network.specs.Wiring.{is_driven_lem};
+ghost use Rattle.network.specs.Wiring.{is_driven_of};
 ghost use Rattle.netlist.specs.Signals.{number_of};
 ghost use Rattle.netlist.specs.Faults.{has_dotted_lem, has_driver_lem, driven_twice, fault};
 ghost use Rattle.netlist.specs.Views.{piece_on, pieces, signals_on, bytes_of};
@@ -59,7 +59,7 @@ pub fn number_of(text: &[u8], signals: &[Signal], name: &[u8]) -> usize
 }
 
 pub fn is_driven(driver: Driver) -> bool
-    ensures { result ≡ is_driven_lem driver }
+    ensures { result ≡ is_driven_of driver }
 {
     match driver {
         Driver::Undriven => false,

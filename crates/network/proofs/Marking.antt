@@ -4,7 +4,7 @@ use Rattle.std.specs.List.{list_any}
 use Rattle.std.proofs.lemmas.List.{get_or-set_same, get_or-set_other, get_or-replicate, get_or_past, length-replicate}
 use Rattle.std.proofs.lemmas.Bool.{cases_eq, cases_lt, cases_Bool, both_ways, not_from_false, or_left, or_right, or_cases, eq-eqb, eqb-true}
 use Rattle.network.specs.Marks.{marked, MarkedBelow, MarksReached}
-use Rattle.network.specs.Net.{signals, size, turn, signal_at_lem, fanin, from}
+use Rattle.network.specs.Net.{signals, size, turn, signal_by_turn, fanin, from}
 use Rattle.network.specs.Reach.{Wire, Reaches, wire, further}
 use Rattle.network.specs.Rewiring.{Downstream}
 use Rattle.network.specs.Wiring.{feeders}
@@ -58,7 +58,7 @@ module _ (net : Network) (gate t s : ℕ) (marks : List ℕ) (before : MarkedBel
   earlier : (u : ℕ) → u < size net → turn net u < t + 1 → (u ≡ s → ⊥) → turn net u < t
   earlier u l h ne =
       ⊎_elim
-      (λ e. absurd (ne (sym (net.turns.numbered u (omega (arith, l, net.counted))).1 ∙ ap (signal_at_lem net) (e ∙ sym at) ∙ (net.turns.numbered s (omega (arith, here, net.counted))).1)))
+      (λ e. absurd (ne (sym (net.turns.numbered u (omega (arith, l, net.counted))).1 ∙ ap (signal_by_turn net) (e ∙ sym at) ∙ (net.turns.numbered s (omega (arith, here, net.counted))).1)))
       (λ other. omega arith)
       (cases_eq (turn net u) t)
 

@@ -3,18 +3,18 @@ use Rattle.std.proofs.Common.{◌≡◌, ℕ, ◌<◌, Bool, true, List, length,
 use Rattle.std.specs.List.{list_any}
 use Rattle.std.proofs.lemmas.List.{get_or-take, length-take, get_or_read}
 use Rattle.std.proofs.lemmas.List.Folds.{list_any_at, Any-from_list_any}
-use Rattle.network.specs.Wiring.{pin_count_lem, signal_at_pin, pins_of, driver, wires, feeder, feeders}
+use Rattle.network.specs.Wiring.{number_of_pins, signal_at_pin, pins_of, driver, wires, feeder, feeders}
 use Rattle.network.specs.declared.signal.Driver.{Driver}
 use Rattle.network.specs.declared.signal.Driver.TheVariants.{Undriven, Input, Latched, Gated}
 use Rattle.network.specs.declared.signal.Signal.{Signal}
 
-length-pins_of : (d : Driver) → length (pins_of d) ≡ pin_count_lem d
+length-pins_of : (d : Driver) → length (pins_of d) ≡ number_of_pins d
 length-pins_of Undriven = refl
 length-pins_of Input = refl
 length-pins_of (Latched l) = refl
 length-pins_of (Gated g) = omega (arith, length-take g.pin_count g.pins, g.few, g.wide)
 
-pin_at : (d : Driver) (k : ℕ) → k < pin_count_lem d → get_or (pins_of d) k 0 ≡ signal_at_pin d k
+pin_at : (d : Driver) (k : ℕ) → k < number_of_pins d → get_or (pins_of d) k 0 ≡ signal_at_pin d k
 pin_at Undriven k l = absurd (omega arith)
 pin_at Input k l = absurd (omega arith)
 pin_at (Latched x) k l = absurd (omega arith)
