@@ -1,5 +1,6 @@
-ghost use Rattle.std.specs.Prelude.{◌≤◌, vec_capacity};
+ghost use Rattle.std.specs.Prelude.{◌≡◌, ◌≤◌, vec_capacity};
 ghost use Rattle.network.specs.Limit.{max_signals};
+ghost use Rattle.network.specs.Turns.{count_of};
 ghost use Rattle.netlist.specs.Limit.{max_bytes};
 
 use crate::limit::MAX_BYTES;
@@ -18,6 +19,7 @@ pub struct Room {
     pub(crate) turns: Turns,
     ghost named: { max_signals ≤ vec_capacity signals },
     ghost line: { max_bytes ≤ vec_capacity words },
+    ghost unturned: { count_of turns ≡ 0 },
 }
 
 impl Room {
