@@ -6,7 +6,7 @@ use Rattle.network.specs.Ranking.{Ranked, waits}
 use Rattle.network.specs.Reach.{Wire, Reaches, wire, further, Acyclic}
 use Rattle.network.specs.Search.{marked, unmarked}
 use Rattle.network.specs.Turns.{turns_of, turn_in, signal_in}
-use Rattle.network.specs.Wiring.{wires, feeder, Wired, Climbs}
+use Rattle.network.specs.Wiring.{feeder, Wired, Climbs}
 use Rattle.network.specs.declared.signal.Signal.{Signal}
 use Rattle.network.specs.declared.turns.Turns.{Turns}
 use Rattle.network.proofs.Marks.{all_blank, unmarked_blank, one_fewer}
