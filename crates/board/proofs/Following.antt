@@ -15,7 +15,7 @@ use Rattle.paths.proofs.Edits.{edits_right}
 use Rattle.network.specs.Net.{signals as signals_of, size}
 use Rattle.network.specs.Rewiring.{rewired_driver}
 use Rattle.network.specs.Senses.{raises_in, lowers_in}
-use Rattle.network.specs.Wiring.{absent, driver, is_source, pin_count_lem, signal_at_pin}
+use Rattle.network.specs.Wiring.{absent, driver, is_source, number_of_pins, signal_at_pin}
 use Rattle.network.specs.declared.signal.Driver.{Driver}
 use Rattle.network.specs.declared.signal.Driver.TheVariants.{Undriven, Input, Latched, Gated}
 use Rattle.network.specs.declared.signal.Signal.{Signal}
@@ -46,19 +46,19 @@ abbrev pin_from : {V : Type 0} → Driver → (ℕ → V) → ℕ → Pin V
 pin_from d w k = weighed d k (w k)
 
 abbrev pub entry_from : {V : Type 0} → Driver → V → (ℕ → V) → Entry V
-entry_from d v w = record { source = is_source d; start = v; pins = map (pin_from d w) (range_with_len 0 (pin_count_lem d)) }
+entry_from d v w = record { source = is_source d; start = v; pins = map (pin_from d w) (range_with_len 0 (number_of_pins d)) }
 
 module _ {V : Type 0} (d : Driver) (v : V) where
-  pub entry_same : (w w' : ℕ → V) → ((k : ℕ) → k < pin_count_lem d → w' k ≡ w k) → entry_from d v w' ≡ entry_from d v w
+  pub entry_same : (w w' : ℕ → V) → ((k : ℕ) → k < number_of_pins d → w' k ≡ w k) → entry_from d v w' ≡ entry_from d v w
   entry_same w w' same =
       ap (λ (ps : List (Pin V)). record { source = is_source d; start = v; pins = ps })
-      (counted_same (pin_from d w') (pin_from d w) 0 (pin_count_lem d) (λ k l. ap (weighed d k) (same k (omega arith))))
+      (counted_same (pin_from d w') (pin_from d w) 0 (number_of_pins d) (λ k l. ap (weighed d k) (same k (omega arith))))
 
-  entry_reweighed : (w w' : ℕ → V) (k : ℕ) (f : Pin V → V) → (k < pin_count_lem d → w' k ≡ f (pin_from d w k)) → ((j : ℕ) → j < pin_count_lem d → j ≢ k → w' j ≡ w j)
+  entry_reweighed : (w w' : ℕ → V) (k : ℕ) (f : Pin V → V) → (k < number_of_pins d → w' k ≡ f (pin_from d w k)) → ((j : ℕ) → j < number_of_pins d → j ≢ k → w' j ≡ w j)
       → entry_from d v w' ≡ repinned k (reweighed f) (entry_from d v w)
   entry_reweighed w w' k f here others =
       ap (λ (ps : List (Pin V)). record { source = is_source d; start = v; pins = ps })
-      (counted_update (pin_from d w) (pin_from d w') (pin_count_lem d) k (reweighed f) (λ l. ap (weighed d k) (here l)) (λ j l ne. ap (weighed d j) (others j l ne)))
+      (counted_update (pin_from d w) (pin_from d w') (number_of_pins d) k (reweighed f) (λ l. ap (weighed d k) (here l)) (λ j l ne. ap (weighed d j) (others j l ne)))
 
 entry_refed : {V : Type 0} (d : Driver) (v : V) (w : ℕ → V) (k u : ℕ) → entry_from (rewired_driver d k u) v w ≡ repinned k (refed u) (entry_from d v w)
 entry_refed Undriven v w k u = refl

@@ -10,7 +10,7 @@ use Rattle.weights.specs.declared.times.Times.{Times}
 use Rattle.paths.proofs.Sums.{agree_in_sums}
 use Rattle.network.specs.Net.{signals, size}
 use Rattle.network.specs.Senses.{raises, lowers, raises_in, lowers_in}
-use Rattle.network.specs.Wiring.{driver, pin_count_lem}
+use Rattle.network.specs.Wiring.{driver, number_of_pins}
 use Rattle.network.specs.declared.signal.Driver.{Driver}
 use Rattle.network.specs.declared.signal.Driver.TheVariants.{Undriven, Input, Latched, Gated}
 use Rattle.delays.proofs.Marking.{small}
@@ -30,7 +30,7 @@ use Rattle.board.proofs.Webs.{book_long, entry_of, webs_agree}
 
 module _ {G : Type 0} (r : Ops G) (delays : ℕ → ℕ → G) where
   -- a pin that is there weighs by its sense
-  pin_weight : (d : Driver) (k : ℕ) (t : Times) → k < pin_count_lem d → driver_weight_lem r delays d k t ≡ weight_of r delays (raises_in d k) (lowers_in d k) t
+  pin_weight : (d : Driver) (k : ℕ) (t : Times) → k < number_of_pins d → driver_weight_lem r delays d k t ≡ weight_of r delays (raises_in d k) (lowers_in d k) t
   pin_weight Undriven k t l = absurd (omega arith)
   pin_weight Input k t l = absurd (omega arith)
   pin_weight (Latched _) k t l = absurd (omega arith)

@@ -10,7 +10,7 @@ use Rattle.gauge.specs.Semirings.{Ops}
 use Rattle.gauge.specs.declared.matrix.EdgeMatrix.{EdgeMatrix}
 use Rattle.network.specs.Net.{signals as signals_of, size, fanin}
 use Rattle.network.specs.Rewiring.{rewired_driver, rewired}
-use Rattle.network.specs.Wiring.{absent, pin_count_lem}
+use Rattle.network.specs.Wiring.{absent, number_of_pins}
 use Rattle.network.specs.declared.signal.Driver.{Driver}
 use Rattle.network.specs.declared.signal.Driver.TheVariants.{Undriven, Input, Latched, Gated}
 use Rattle.network.specs.declared.signal.Signal.{Signal}
@@ -151,7 +151,7 @@ module _ {G : Type 0} (r : Ops G) (delays : ℕ → ℕ → G) where
       let many : size y.network ≡ n = accepted_size r delays e x y _ acc in
       record {
         many = many;
-        pins = signals_keep (λ z. pin_count_lem z.driver) (λ z k u. rewired_fanin (z ∷ []) 0 k u 0) e xs ys acc.signals;
+        pins = signals_keep (λ z. number_of_pins z.driver) (λ z k u. rewired_fanin (z ∷ []) 0 k u 0) e xs ys acc.signals;
         frames = signals_keep (λ z. frame_of z.driver) (λ z. rewired_frame z.driver) e xs ys acc.signals;
         names = λ s. told_keep (λ z. z.name) xs ys many s (signals_keep (λ z. z.name) (λ z k u. refl) e xs ys acc.signals s);
         outputs = signals_keep (λ z. z.output) (λ z k u. refl) e xs ys acc.signals;

@@ -9,7 +9,7 @@ use Rattle.paths.specs.Edits.{any, only, fed, Settled, edit_count, count_below}
 use Rattle.paths.specs.Web.{Web, Incoming, Ranked, Rankable, Agree}
 use Rattle.paths.proofs.Sums.{worked_unedited, agree_ranked}
 use Rattle.network.specs.Net.{signals, size, fanin, turn, is_source_of}
-use Rattle.network.specs.Wiring.{absent, pin_count_lem}
+use Rattle.network.specs.Wiring.{absent, number_of_pins}
 use Rattle.network.specs.declared.signal.Signal.{Signal}
 use Rattle.settling.specs.Tables as tables
 use Rattle.settling.specs.Tables.{cells, web_on}
@@ -61,7 +61,7 @@ module _ {V : Type 0} (r : Ops V) (x : View V) where
   pins_are s =
       ⊎_elim
       (λ l. ap (λ (e : Entry V). length e.pins) (entry_is s l) ∙ length-map-range_with_len _ 0 (fanin x.network s))
-      (λ past. ap (λ (e : Entry V). length e.pins) (entry_past s past) ∙ ap (λ (y : Signal). pin_count_lem y.driver) (sym (signal_past s past)))
+      (λ past. ap (λ (e : Entry V). length e.pins) (entry_past s past) ∙ ap (λ (y : Signal). number_of_pins y.driver) (sym (signal_past s past)))
       (cases_lt s (size x.network))
 
   pub sources_are : (s : ℕ) → (entry r (book_of r x) s).source ≡ (ltb s (size x.network) && is_source_of x.network s)
@@ -75,7 +75,7 @@ module _ {V : Type 0} (r : Ops V) (x : View V) where
   pub pin_within : (g k : ℕ) → has_pin r (book_of r x) g k ≡ true → (g < size x.network) × (k < fanin x.network g)
   pin_within g k has =
       let there : k < fanin x.network g = omega (arith, ltb-true k _ has, pins_are g) in
-      (⊎_elim (λ l. l) (λ past. absurd (omega (arith, ap (λ (y : Signal). pin_count_lem y.driver) (signal_past g past)))) (cases_lt g (size x.network)), there)
+      (⊎_elim (λ l. l) (λ past. absurd (omega (arith, ap (λ (y : Signal). number_of_pins y.driver) (signal_past g past)))) (cases_lt g (size x.network)), there)
 
   pub source_within : (s : ℕ) → (entry r (book_of r x) s).source ≡ true → s < size x.network
   source_within s is = ltb-true s (size x.network) (and_parts _ _ (sym (sources_are s) ∙ is)).0

@@ -3,7 +3,7 @@ use Rattle.std.specs.Prelude.{◌≡◌, ℕ, ◌+◌, ◌*◌, ◌<◌, ◌≤�
 use Rattle.gauge.specs.Matrix.{edge_ops}
 use Rattle.gauge.specs.Semirings.{Ops}
 use Rattle.gauge.specs.declared.matrix.EdgeMatrix.{EdgeMatrix}
-use Rattle.network.specs.Net.{signals, size, name_of, is_output_lem, is_captured_lem, fanin}
+use Rattle.network.specs.Net.{signals, size, name_of, is_output_of, is_captured_of, fanin}
 use Rattle.network.specs.Wiring.{driver}
 use Rattle.network.specs.declared.signal.Driver.{Driver}
 use Rattle.network.specs.declared.signal.Driver.TheVariants.{Undriven, Input, Latched, Gated}
@@ -38,8 +38,8 @@ pub record Kept {V : Type 0} (r : Ops V) (x y : View V) : Type 0 where
   pub pins : (s : ℕ) → fanin y.network s ≡ fanin x.network s
   pub frames : (s : ℕ) → frame_of (driver (signals y.network) s) ≡ frame_of (driver (signals x.network) s)
   pub names : (s : ℕ) → name_of y.network s ≡ name_of x.network s
-  pub outputs : (s : ℕ) → is_output_lem y.network s ≡ is_output_lem x.network s
-  pub captures : (s : ℕ) → is_captured_lem y.network s ≡ is_captured_lem x.network s
+  pub outputs : (s : ℕ) → is_output_of y.network s ≡ is_output_of x.network s
+  pub captures : (s : ℕ) → is_captured_of y.network s ≡ is_captured_of x.network s
   -- the lengths of the tables, and their cells past the signals
   pub starts : SamePast (size x.network) x.starts y.starts
   pub weights : SamePast (4 * size x.network) x.weights y.weights

@@ -5,7 +5,7 @@ use Rattle.std.proofs.lemmas.Bool.{ltb-true, eq-eqb, cases_eq, and_parts, and_fr
 use Rattle.std.proofs.lemmas.Bool.Decides.{nat_tests}
 use Rattle.network.specs.Limit.{max_signals}
 use Rattle.network.specs.Net.{signals}
-use Rattle.network.specs.Wiring.{pin_count_lem, driver}
+use Rattle.network.specs.Wiring.{number_of_pins, driver}
 use Rattle.network.specs.declared.network.Network.{Network}
 use Rattle.network.specs.declared.signal.Driver.{Driver}
 use Rattle.network.specs.declared.signal.Driver.TheVariants.{Undriven, Input, Latched, Gated}
@@ -22,7 +22,7 @@ pub record Small (outline : Outline) : Type 0 where
   pub signals : outline.signals ≤ 255
   pub pins : (s : ℕ) → outline.pins s ≤ 4
 
-few : (d : Driver) → pin_count_lem d ≤ 4
+few : (d : Driver) → number_of_pins d ≤ 4
 few Undriven = omega arith
 few Input = omega arith
 few (Latched l) = omega arith

@@ -6,7 +6,7 @@ use Rattle.gauge.specs.Matrix.{edge_ops}
 use Rattle.gauge.specs.Semirings.{Ops}
 use Rattle.gauge.specs.declared.matrix.EdgeMatrix.{EdgeMatrix}
 use Rattle.network.specs.Net.{signals, size, fanin}
-use Rattle.network.specs.Wiring.{absent, pin_count_lem}
+use Rattle.network.specs.Wiring.{absent, number_of_pins}
 use Rattle.network.specs.declared.network.Network.{Network}
 use Rattle.network.specs.declared.signal.Signal.{Signal}
 use Rattle.fields.specs.declared.edit.Edit.{Edit}
@@ -70,7 +70,7 @@ has_pin_lem net g k =
     ⊎_elim
     (λ l. ap (λ b. b && ltb k (fanin net g)) (sym (lt-ltb g (size net) l)))
     (λ past.
-    let none : fanin net g ≡ 0 = ap (λ (x : Signal). pin_count_lem x.driver) (get_or_past (signals net) g absent past) in
+    let none : fanin net g ≡ 0 = ap (λ (x : Signal). number_of_pins x.driver) (get_or_past (signals net) g absent past) in
     le-ltb k (fanin net g) (omega arith) ∙ ap (λ b. b && ltb k (fanin net g)) (sym (le-ltb g (size net) past)))
     (cases_lt g (size net))
 

@@ -1,5 +1,6 @@
-ghost use Rattle.std.specs.Prelude.{◌≤◌, vec_len};
+ghost use Rattle.std.specs.Prelude.{◌≡◌, ◌≤◌, vec_len};
 ghost use Rattle.network.specs.Limit.{max_signals};
+ghost use Rattle.network.specs.Turns.{count_of};
 
 use network::signal::Signal;
 use network::turns::Turns;
@@ -10,4 +11,5 @@ pub struct Draft {
     pub signals: Vec<Signal>,
     pub turns: Turns,
     ghost few: { vec_len signals ≤ max_signals },
+    ghost unturned: { count_of turns ≡ 0 },
 }

@@ -1,3 +1,6 @@
+ghost use Rattle.std.specs.Prelude.{◌≡◌};
+ghost use Rattle.network.specs.Turns.{count_of};
+
 use crate::line_words::LineWords;
 use crate::signals::Signals;
 use network::turns::Turns;
@@ -9,6 +12,7 @@ pub struct Room {
     pub(crate) signals: Signals,
     pub(crate) words: LineWords,
     pub(crate) turns: Turns,
+    ghost unturned: { count_of turns ≡ 0 },
 }
 
 impl Room {

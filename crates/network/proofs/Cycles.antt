@@ -6,11 +6,11 @@ use Rattle.network.specs.Ranking.{Ranked, waits}
 use Rattle.network.specs.Reach.{Wire, Reaches, wire, further, Acyclic}
 use Rattle.network.specs.Search.{marked, unmarked}
 use Rattle.network.specs.Turns.{turns_of, turn_in, signal_in}
-use Rattle.network.specs.Wiring.{wires, feeder, Wired, Climbs}
+use Rattle.network.specs.Wiring.{feeder, Wired, Climbs}
 use Rattle.network.specs.declared.signal.Signal.{Signal}
 use Rattle.network.specs.declared.turns.Turns.{Turns}
 use Rattle.network.proofs.Marks.{all_blank, unmarked_blank, one_fewer}
-use Rattle.network.proofs.Tallies.{some_find}
+use Rattle.network.proofs.Pins.{feeder_found}
 use Rattle.network.proofs.Ends.{ends_within, begins_within}
 
 module _ (xs : List Signal) (turns : List ℕ) (climbs : Climbs xs turns) where
@@ -58,7 +58,7 @@ stuck xs turns placed wired r more all none =
     let back : (s : ℕ) → U s → (v : ℕ) × Wire xs v s × U v = λ s us.
     let at = turns.numbered s (omega (arith, us.0, r.counted)) in
     let waiting : waits xs (turns_of turns) placed s ≡ true = subst (λ x. waits xs (turns_of turns) placed x ≡ true) at.1 (all (turn_in turns s) us.1 (omega (arith, at.0, r.counted))) in
-    let f = some_find (λ k. leb placed (turn_in turns (feeder xs s k))) (wires xs s) waiting in
+    let f = feeder_found (λ u. leb placed (turn_in turns u)) xs s waiting in
     (feeder xs s f.0, (f.0, f.1, refl), (wired s f.0 f.1, leb-true placed _ f.2)) in
     let first = turns.listed placed (omega (arith, more, r.counted)) in
     never_ends xs U wired back none (signal_in turns placed) (omega (arith, first.0, r.counted), omega (arith, first.1))

@@ -3,7 +3,7 @@ use Rattle.std.proofs.Common.{ℕ, ◌<◌, List, length, ap, subst, ⊎_elim, a
 use Rattle.std.proofs.lemmas.List.{get_or_past}
 use Rattle.std.proofs.lemmas.Bool.{cases_lt}
 use Rattle.network.specs.Reach.{Wire, Reaches, wire, further}
-use Rattle.network.specs.Wiring.{pin_count_lem, absent, wires, Wired}
+use Rattle.network.specs.Wiring.{number_of_pins, absent, wires, Wired}
 use Rattle.network.specs.declared.signal.Signal.{Signal}
 
 -- only a signal that is there has wires
@@ -11,7 +11,7 @@ pub ends_within : (xs : List Signal) (s k : ℕ) → k < wires xs s → s < leng
 ends_within xs s k l =
     ⊎_elim
     (λ within. within)
-    (λ past. absurd (let none = ap (λ (x : Signal). pin_count_lem x.driver) (get_or_past xs s absent past) in omega arith))
+    (λ past. absurd (let none = ap (λ (x : Signal). number_of_pins x.driver) (get_or_past xs s absent past) in omega arith))
     (cases_lt s (length xs))
 
 pub begins_within : (xs : List Signal) → Wired xs → (v s : ℕ) → Wire xs v s → v < length xs

@@ -12,4 +12,3 @@ mod Placing
 mod Renumbered
 pub mod Rewired
 mod Searching
-mod Tallies

@@ -1,16 +1,17 @@
 -- Marks on what is downstream of a gate, turn by turn.
-use Rattle.std.proofs.Common.{◌≡◌, ℕ, ◌+◌, ◌<◌, ◌≤◌, Bool, true, false, not, ◌||◌, eqb, List, length, get_or, set, replicate, sym, refl, ap, ◌∙◌, subst, inl, inr, ⊎_elim, arith}
+use Rattle.std.proofs.Common.{◌≡◌, ℕ, ◌+◌, ◌<◌, Bool, true, false, not, eqb, List, length, get_or, set, replicate, sym, refl, ap, ◌∙◌, subst, inl, inr, ⊎_elim, arith}
+use Rattle.std.specs.List.{list_any}
 use Rattle.std.proofs.lemmas.List.{get_or-set_same, get_or-set_other, get_or-replicate, get_or_past, length-replicate}
-use Rattle.std.proofs.lemmas.Bool.{cases_eq, cases_lt, cases_Bool, both_ways, not_from_false, or_left, or_right, or_cases, eq-eqb, eqb-true}
+use Rattle.std.proofs.lemmas.Bool.{cases_eq, cases_lt, both_ways}
 use Rattle.network.specs.Marks.{marked, MarkedBelow, MarksReached}
-use Rattle.network.specs.Net.{signals, size, turn, signal_at_lem, fanin, from}
+use Rattle.network.specs.Net.{signals, size, turn, signal_by_turn, fanin, from}
 use Rattle.network.specs.Reach.{Wire, Reaches, wire, further}
 use Rattle.network.specs.Rewiring.{Downstream}
-use Rattle.network.specs.Tally.{some}
+use Rattle.network.specs.Wiring.{feeders}
 use Rattle.network.specs.declared.network.Network.{Network}
 use Rattle.network.specs.declared.signal.Signal.{Signal}
 use Rattle.network.proofs.Ends.{ends_within, begins_within}
-use Rattle.network.proofs.Tallies.{some_yes, some_find}
+use Rattle.network.proofs.Pins.{feeder_yes, feeder_found}
 
 -- the last wire of a way
 last_wire : (xs : List Signal) (u s : ℕ) → Reaches (Wire xs) u s → (v : ℕ) × Wire xs v s × Downstream xs u v
@@ -29,12 +30,12 @@ marked_other marks s u ne = ap (λ x. not (eqb x 0)) (get_or-set_other marks s u
 
 -- a pin of s reads a marked signal
 abbrev reads : Network → List ℕ → ℕ → Bool
-reads net marks s = some (λ k. marked marks (from net s k)) (fanin net s)
+reads net marks s = list_any (marked marks) (feeders (signals net) s)
 
 -- what reads a marked signal is downstream, if only such signals are marked
 read_reached : (net : Network) (gate s : ℕ) (marks : List ℕ) → ((u : ℕ) → marked marks u ≡ true → Downstream (signals net) gate u) → reads net marks s ≡ true → Downstream (signals net) gate s
 read_reached net gate s marks only e =
-    let found = some_find (λ k. marked marks (from net s k)) (fanin net s) e in
+    let found = feeder_found (marked marks) (signals net) s e in
     let k = found.0 in
     inr (one_further (signals net) gate (from net s k) s (only (from net s k) found.2) (k, found.1, refl))
 
@@ -46,7 +47,7 @@ reached_reads net gate s marks all way =
     let w = last.1 in
     let below : turn net v < turn net s = subst (λ x. turn net x < turn net s) w.2 (net.climbs s w.0 w.1) in
     let there = all v (begins_within (signals net) net.wired v s w) below last.2 in
-    some_yes (λ k. marked marks (from net s k)) (fanin net s) w.0 w.1 (subst (λ x. marked marks x ≡ true) (sym w.2) there)
+    feeder_yes (marked marks) (signals net) s w.0 w.1 (subst (λ x. marked marks x ≡ true) (sym w.2) there)
 
 -- s has the turn t, and the marks below it are right
 module _ (net : Network) (gate t s : ℕ) (marks : List ℕ) (before : MarkedBelow net gate t marks) (here : s < size net) (at : turn net s ≡ t) where
@@ -57,7 +58,7 @@ module _ (net : Network) (gate t s : ℕ) (marks : List ℕ) (before : MarkedBel
   earlier : (u : ℕ) → u < size net → turn net u < t + 1 → (u ≡ s → ⊥) → turn net u < t
   earlier u l h ne =
       ⊎_elim
-      (λ e. absurd (ne (sym (net.turns.numbered u (omega (arith, l, net.counted))).1 ∙ ap (signal_at_lem net) (e ∙ sym at) ∙ (net.turns.numbered s (omega (arith, here, net.counted))).1)))
+      (λ e. absurd (ne (sym (net.turns.numbered u (omega (arith, l, net.counted))).1 ∙ ap (signal_by_turn net) (e ∙ sym at) ∙ (net.turns.numbered s (omega (arith, here, net.counted))).1)))
       (λ other. omega arith)
       (cases_eq (turn net u) t)
 
@@ -108,33 +109,3 @@ none_marked net gate marks n e =
 pub marks_closed : (net : Network) (gate : ℕ) (marks : List ℕ) → MarksReached net gate marks → (s k : ℕ) → k < fanin net s → marked marks (from net s k) ≡ true → marked marks s ≡ true
 marks_closed net gate marks m s k l yes' =
     m.all s (ends_within (signals net) s k l) (inr (one_further (signals net) gate (from net s k) s (m.only (from net s k) yes').1 (k, l, refl)))
-
--- past the signals no cell has a mark
-pub marks_past : (net : Network) (gate : ℕ) (marks : List ℕ) → MarksReached net gate marks → (s : ℕ) → size net ≤ s → get_or marks s 0 ≡ 0
-marks_past net gate marks m s past =
-    ⊎_elim
-    (λ yes'. eqb-true (get_or marks s 0) 0 yes')
-    (λ no'. absurd (omega (arith, past, (m.only s (not_from_false (eqb (get_or marks s 0) 0) no')).0)))
-    (cases_Bool (eqb (get_or marks s 0) 0))
-
-same_tests : (a b : Bool) → (a ≡ true → b ≡ true) → (b ≡ true → a ≡ true) → a ≡ b
-same_tests true true to back = refl
-same_tests true false to back = sym (to refl)
-same_tests false true to back = back refl
-same_tests false false to back = refl
-
--- marked are the gate and what reads a marked signal
-pub marks_fix : (net : Network) (gate : ℕ) (marks : List ℕ) → MarksReached net gate marks → (s : ℕ) → s < size net → marked marks s ≡ (eqb s gate || some (λ k. marked marks (from net s k)) (fanin net s))
-marks_fix net gate marks m s l =
-    same_tests (marked marks s) (eqb s gate || reads net marks s)
-    (λ yes'.
-    ⊎_elim
-    (λ e. or_left (eqb s gate) (reads net marks s) (eq-eqb s gate e))
-    (λ way. or_right (eqb s gate) (reads net marks s) (reached_reads net gate s marks (λ u lu h r. m.all u lu r) way))
-    (m.only s yes').1)
-    (λ yes'.
-    m.all s l
-    (⊎_elim
-    (λ e. inl (eqb-true s gate e))
-    (λ e. read_reached net gate s marks (λ u mu. (m.only u mu).1) e)
-    (or_cases (eqb s gate) (reads net marks s) yes')))

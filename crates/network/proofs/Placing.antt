@@ -1,5 +1,5 @@
 -- One signal more gets its turn.
-use Rattle.std.proofs.Common.{◌≡◌, ℕ, ◌+◌, ◌<◌, ◌≤◌, false, leb, List, length, get_or, sym, refl, ap, ◌∙◌, subst, ⊎_elim, zero-add, arith}
+use Rattle.std.proofs.Common.{◌≡◌, ℕ, ◌+◌, ◌<◌, ◌≤◌, false, leb, List, length, get_or, sym, ap, ◌∙◌, subst, ⊎_elim, zero-add, arith}
 use Rattle.std.specs.List.{range_with_len, swap}
 use Rattle.std.proofs.lemmas.List.Edits.{Swapped, swapped_from_swap, length-swap}
 use Rattle.std.proofs.lemmas.List.FromFn.{get_or-range_with_len, length-range_with_len}
@@ -9,7 +9,7 @@ use Rattle.network.specs.Turns.{turns_of, order_of, count_of, turn_in, signal_in
 use Rattle.network.specs.Wiring.{wires, feeder, Wired, Inverse}
 use Rattle.network.specs.declared.signal.Signal.{Signal}
 use Rattle.network.specs.declared.turns.Turns.{Turns}
-use Rattle.network.proofs.Tallies.{some_yes}
+use Rattle.network.proofs.Pins.{feeder_yes}
 use Rattle.network.proofs.Ends.{ends_within}
 
 -- what waits for none reads placed signals alone
@@ -17,7 +17,7 @@ reads_placed : (xs : List Signal) (turns : List ℕ) (placed s k : ℕ) → wait
 reads_placed xs turns placed s k z l =
     ⊎_elim
     (λ h. h)
-    (λ h. absurd (both_ways (waits xs turns placed s) z (some_yes (λ j. leb placed (get_or turns (feeder xs s j) 0)) (wires xs s) k l (le-leb placed _ h))))
+    (λ h. absurd (both_ways (waits xs turns placed s) z (feeder_yes (λ u. leb placed (get_or turns u 0)) xs s k l (le-leb placed _ h))))
     (cases_lt (get_or turns (feeder xs s k) 0) placed)
 
 -- the signal y at a later turn b is placed, and x at the turn a goes there instead

@@ -4,7 +4,7 @@ use Rattle.std.proofs.lemmas.List.{get_or-set_same, get_or-set_other, set_past}
 use Rattle.std.proofs.lemmas.Bool.{cases_eq, cases_lt, cases_Bool, and_parts, and_left, eqb-true, eq-eqb, ne_eqb, cond-true, cond-false}
 use Rattle.network.specs.Rewiring.{rewired_driver, rewired, rewired_at}
 use Rattle.network.specs.Senses.{raises_in, lowers_in}
-use Rattle.network.specs.Wiring.{is_driven_lem, is_source, pin_count_lem, signal_at_pin, Captures, absent, driver, wires, feeder, Driven, Wired, LatchesWired, Climbs}
+use Rattle.network.specs.Wiring.{is_driven_of, is_source, number_of_pins, signal_at_pin, Captures, absent, driver, wires, feeder, Driven, Wired, LatchesWired, Climbs}
 use Rattle.network.specs.declared.signal.Driver.{Driver}
 use Rattle.network.specs.declared.signal.Driver.TheVariants.{Undriven, Input, Latched, Gated}
 use Rattle.network.specs.declared.signal.Signal.{Signal}
@@ -18,7 +18,7 @@ pub rewired_length : (xs : List Signal) (g k u : ℕ) → length (rewired_at xs 
 rewired_length xs g k u = length-set xs g (rewired (get_or xs g absent) k u)
 
 -- of a driver: what stays
-same_driven : (d : Driver) (k u : ℕ) → is_driven_lem (rewired_driver d k u) ≡ is_driven_lem d
+same_driven : (d : Driver) (k u : ℕ) → is_driven_of (rewired_driver d k u) ≡ is_driven_of d
 same_driven Undriven k u = refl
 same_driven Input k u = refl
 same_driven (Latched l) k u = refl
@@ -30,7 +30,7 @@ same_source Input k u = refl
 same_source (Latched l) k u = refl
 same_source (Gated g) k u = refl
 
-same_pins : (d : Driver) (k u : ℕ) → pin_count_lem (rewired_driver d k u) ≡ pin_count_lem d
+same_pins : (d : Driver) (k u : ℕ) → number_of_pins (rewired_driver d k u) ≡ number_of_pins d
 same_pins Undriven k u = refl
 same_pins Input k u = refl
 same_pins (Latched l) k u = refl
@@ -55,7 +55,7 @@ same_lowers (Latched l) k u j = refl
 same_lowers (Gated g) k u j = refl
 
 -- and what is new
-new_pin : (d : Driver) (k u j : ℕ) → k < pin_count_lem d → signal_at_pin (rewired_driver d k u) j ≡ cond (eqb j k) u (signal_at_pin d j)
+new_pin : (d : Driver) (k u j : ℕ) → k < number_of_pins d → signal_at_pin (rewired_driver d k u) j ≡ cond (eqb j k) u (signal_at_pin d j)
 new_pin Undriven k u j l = absurd (omega arith)
 new_pin Input k u j l = absurd (omega arith)
 new_pin (Latched x) k u j l = absurd (omega arith)
@@ -89,7 +89,7 @@ module _ (xs : List Signal) (g k u : ℕ) where
       (cases_eq s g)
 
   pub rewired_fanin : (s : ℕ) → wires (rewired_at xs g k u) s ≡ wires xs s
-  rewired_fanin = stays pin_count_lem (λ d. same_pins d k u)
+  rewired_fanin = stays number_of_pins (λ d. same_pins d k u)
 
   pub rewired_source : (s : ℕ) → is_source (driver (rewired_at xs g k u) s) ≡ is_source (driver xs s)
   rewired_source = stays is_source (λ d. same_source d k u)
@@ -98,7 +98,7 @@ module _ (xs : List Signal) (g k u : ℕ) where
   rewired_senses s j = (stays (λ d. raises_in d j) (λ d. same_raises d k u j) s, stays (λ d. lowers_in d j) (λ d. same_lowers d k u j) s)
 
   pub rewired_driven : Driven xs → Driven (rewired_at xs g k u)
-  rewired_driven driven s l = stays is_driven_lem (λ d. same_driven d k u) s ∙ driven s (omega (arith, l, rewired_length xs g k u))
+  rewired_driven driven s l = stays is_driven_of (λ d. same_driven d k u) s ∙ driven s (omega (arith, l, rewired_length xs g k u))
 
   pub rewired_latched : LatchesWired xs → LatchesWired (rewired_at xs g k u)
   rewired_latched latched s d captures =

@@ -1,7 +1,7 @@
 -- What holds of the turns of every network.
 use Rattle.std.proofs.Common.{arith}
 use Rattle.std.specs.Prelude.{◌≡◌, ℕ, ◌<◌}
-use Rattle.network.specs.Net.{signals, size, turn, signal_at_lem}
+use Rattle.network.specs.Net.{signals, size, turn, signal_by_turn}
 use Rattle.network.specs.Reach.{Wire}
 use Rattle.network.specs.declared.network.Network.{Network}
 
@@ -12,8 +12,8 @@ WiresClimb net = (u s : ℕ) → Wire (signals net) u s → turn net u < turn ne
 -- the turns number the signals from 0 without gaps: each signal has one, and each turn a signal
 abbrev pub TurnsNumber : Network → Type 0
 TurnsNumber net =
-    ((s : ℕ) → s < size net → (turn net s < size net) × (signal_at_lem net (turn net s) ≡ s))
-    × ((t : ℕ) → t < size net → (signal_at_lem net t < size net) × (turn net (signal_at_lem net t) ≡ t))
+    ((s : ℕ) → s < size net → (turn net s < size net) × (signal_by_turn net (turn net s) ≡ s))
+    × ((t : ℕ) → t < size net → (signal_by_turn net t < size net) × (turn net (signal_by_turn net t) ≡ t))
 
 pub turns_numbered : (net : Network) → TurnsNumber net
 turns_numbered net = (

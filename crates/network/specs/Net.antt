@@ -25,14 +25,14 @@ abbrev pub driver_of : Network → ℕ → Option Driver
 driver_of net s = option_map (λ (x : Signal). x.driver) (slice_get (signals net) s)
 
 -- an output, or read by a latch: an endpoint
-abbrev pub is_output_lem : Network → ℕ → Bool
-is_output_lem net s = (slice_index_or (signals net) s absent).output
+abbrev pub is_output_of : Network → ℕ → Bool
+is_output_of net s = (slice_index_or (signals net) s absent).output
 
-abbrev pub is_captured_lem : Network → ℕ → Bool
-is_captured_lem net s = (slice_index_or (signals net) s absent).captured
+abbrev pub is_captured_of : Network → ℕ → Bool
+is_captured_of net s = (slice_index_or (signals net) s absent).captured
 
-abbrev pub is_endpoint_lem : Network → ℕ → Bool
-is_endpoint_lem net s = is_output_lem net s || is_captured_lem net s
+abbrev pub is_endpoint_of : Network → ℕ → Bool
+is_endpoint_of net s = is_output_of net s || is_captured_of net s
 
 -- an input or a latch's output
 abbrev pub is_source_of : Network → ℕ → Bool
@@ -49,15 +49,15 @@ from net s k = feeder (signals net) s k
 abbrev pub turn : Network → ℕ → ℕ
 turn net s = turn_in net.turns s
 
-abbrev pub signal_at_lem : Network → ℕ → ℕ
-signal_at_lem net t = signal_in net.turns t
+abbrev pub signal_by_turn : Network → ℕ → ℕ
+signal_by_turn net t = signal_in net.turns t
 
 -- the same, where there is such a signal, turn or pin
 abbrev pub turn_if : Network → ℕ → Option ℕ
 turn_if net s = then_some (nat_lt s (size net)) (turn net s)
 
 abbrev pub signal_at_if : Network → ℕ → Option ℕ
-signal_at_if net t = then_some (nat_lt t (size net)) (signal_at_lem net t)
+signal_at_if net t = then_some (nat_lt t (size net)) (signal_by_turn net t)
 
 abbrev pub from_if : Network → ℕ → ℕ → Option ℕ
 from_if net s k = then_some (nat_lt k (fanin net s)) (from net s k)

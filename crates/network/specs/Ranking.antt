@@ -1,8 +1,8 @@
 -- Signals that get their turns one by one.
 use Rattle.std.specs.Prelude.{◌≡◌, ℕ, ◌<◌, ◌≤◌, Bool, true, false, List, length, Some, None, Option, nat_le, slice_index}
-use Rattle.network.specs.Tally.{some}
+use Rattle.std.specs.List.{list_any}
 use Rattle.network.specs.Turns.{count_of, turn_in}
-use Rattle.network.specs.Wiring.{wires, feeder}
+use Rattle.network.specs.Wiring.{wires, feeder, feeders}
 use Rattle.network.specs.declared.signal.Signal.{Signal}
 use Rattle.network.specs.declared.turns.Turns.{Turns}
 
@@ -13,7 +13,7 @@ pub record Ranked (xs : List Signal) (turns : Turns) (placed : ℕ) : Type 0 whe
 
 -- a pin of s reads a signal that has none of the first turns
 abbrev pub waits : List Signal → List ℕ → ℕ → ℕ → Bool
-waits xs turns placed s = some (λ k. nat_le placed (slice_index turns (feeder xs s k))) (wires xs s)
+waits xs turns placed s = list_any (λ u. nat_le placed (slice_index turns u)) (feeders xs s)
 
 -- past the placed turns every signal waits, or the one of the turn t doesn't
 abbrev pub Ready : List Signal → List ℕ → List ℕ → ℕ → Option ℕ → Type 0

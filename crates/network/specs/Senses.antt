@@ -1,6 +1,6 @@
 -- How a pin moves its gate.
 use Rattle.std.specs.Prelude.{ℕ, ◌+◌, ◌^◌, Bool, true, false, not, ◌&&◌, nat_lt}
-use Rattle.network.specs.Tally.{some}
+use Rattle.std.specs.List.{list_any, range_with_len}
 use Rattle.network.specs.Truth.{bit, truth}
 use Rattle.network.specs.declared.gate.Gate.{Gate}
 use Rattle.network.specs.declared.sense.Sense.{Sense}
@@ -9,17 +9,17 @@ use Rattle.network.specs.declared.signal.Driver.{Driver}
 use Rattle.network.specs.declared.signal.Driver.TheVariants.{Undriven, Input, Latched, Gated}
 
 -- from 0 to 1 where `to` is 1, and from 1 to 0 where it is 0
-abbrev pub goes_to_lem : Bool → Bool → Bool → Bool
-goes_to_lem true before after = not before && after
-goes_to_lem false before after = before && not after
+abbrev pub steps_to : Bool → Bool → Bool → Bool
+steps_to true before after = not before && after
+steps_to false before after = before && not after
 
 -- the pin is 0 in the setting, and switching it to 1 takes the gate to `to`
-abbrev pub moves_in_lem : Gate → ℕ → Bool → ℕ → Bool
-moves_in_lem gate pin to setting = not (bit setting pin) && goes_to_lem to (truth gate setting) (truth gate (setting + 2 ^ pin))
+abbrev pub moved_in : Gate → ℕ → Bool → ℕ → Bool
+moved_in gate pin to setting = not (bit setting pin) && steps_to to (truth gate setting) (truth gate (setting + 2 ^ pin))
 
 -- the pin is there, and does so for some setting of the others
 abbrev pub moves : Gate → ℕ → Bool → Bool
-moves gate pin to = nat_lt pin gate.pin_count && some (moves_in_lem gate pin to) (2 ^ gate.pin_count)
+moves gate pin to = nat_lt pin gate.pin_count && list_any (moved_in gate pin to) (range_with_len 0 (2 ^ gate.pin_count))
 
 -- for some setting of the others, switching the pin from 0 to 1 takes the gate from 0 to 1
 abbrev pub raises : Gate → ℕ → Bool

@@ -1,10 +1,5 @@
 -- Numbers below n that a test holds of.
-use Rattle.std.specs.Prelude.{ℕ, zero, suc, ◌+◌, Bool, false, cond, ◌||◌}
-
--- the test holds of some number below n
-abbrev pub some : (ℕ → Bool) → ℕ → Bool
-some test zero = false
-some test (suc n) = some test n || test n
+use Rattle.std.specs.Prelude.{ℕ, zero, suc, ◌+◌, Bool, cond}
 
 -- of how many numbers below n it holds
 abbrev pub many : (ℕ → Bool) → ℕ → ℕ

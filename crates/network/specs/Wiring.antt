@@ -5,11 +5,11 @@ use Rattle.network.specs.declared.signal.Driver.{Driver}
 use Rattle.network.specs.declared.signal.Driver.TheVariants.{Undriven, Input, Latched, Gated}
 
 -- something drives the signal
-abbrev pub is_driven_lem : Driver → Bool
-is_driven_lem Undriven = false
-is_driven_lem Input = true
-is_driven_lem (Latched l) = true
-is_driven_lem (Gated g) = true
+abbrev pub is_driven_of : Driver → Bool
+is_driven_of Undriven = false
+is_driven_of Input = true
+is_driven_of (Latched l) = true
+is_driven_of (Gated g) = true
 
 -- an input or a latch's output
 abbrev pub is_source : Driver → Bool
@@ -19,11 +19,11 @@ is_source (Latched l) = true
 is_source (Gated g) = false
 
 -- how many pins a driver has: only a gate has some
-abbrev pub pin_count_lem : Driver → ℕ
-pin_count_lem Undriven = 0
-pin_count_lem Input = 0
-pin_count_lem (Latched l) = 0
-pin_count_lem (Gated g) = g.pin_count
+abbrev pub number_of_pins : Driver → ℕ
+number_of_pins Undriven = 0
+number_of_pins Input = 0
+number_of_pins (Latched l) = 0
+number_of_pins (Gated g) = g.pin_count
 
 -- the signal at a pin
 abbrev pub signal_at_pin : Driver → ℕ → ℕ
@@ -56,7 +56,7 @@ driver xs s = (slice_index_or xs s absent).driver
 
 -- how many wires end at the signal s, and where wire k begins: one for each pin
 abbrev pub wires : List Signal → ℕ → ℕ
-wires xs s = pin_count_lem (driver xs s)
+wires xs s = number_of_pins (driver xs s)
 
 abbrev pub feeder : List Signal → ℕ → ℕ → ℕ
 feeder xs s k = signal_at_pin (driver xs s) k
@@ -67,7 +67,7 @@ feeders xs s = pins_of (driver xs s)
 
 -- every signal has a driver
 abbrev pub Driven : List Signal → Type 0
-Driven xs = (s : ℕ) → s < length xs → is_driven_lem (driver xs s) ≡ true
+Driven xs = (s : ℕ) → s < length xs → is_driven_of (driver xs s) ≡ true
 
 -- every pin's signal is one of them
 abbrev pub Wired : List Signal → Type 0

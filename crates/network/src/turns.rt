@@ -3,9 +3,6 @@ ghost use Rattle.std.specs.Prelude.{◌≡◌, ◌≤◌, length, vec_capacity};
 ghost use Rattle.network.specs.Limit.{max_signals};
 ghost use Rattle.network.specs.Wiring.{Inverse};
 
-use crate::limit::MAX_SIGNALS;
-use std::alloc::{AllocError, Global};
-
 mod reads;
 mod renumber;
 mod start;
@@ -22,13 +19,4 @@ pub struct Turns {
     ghost long: { length order.items ≡ length turn_of.items },
     ghost numbered: { Inverse turn_of.items order.items (length turn_of.items) },
     ghost listed: { Inverse order.items turn_of.items (length turn_of.items) },
-}
-
-impl Turns {
-    /// Room for the turns, of which there are none yet.
-    pub fn new(heap: Global) -> Result<Turns, AllocError> {
-        let turn_of = Vec::with_capacity(heap, MAX_SIGNALS)?;
-        let order = Vec::with_capacity(heap, MAX_SIGNALS)?;
-        Ok(Turns { turn_of, order })
-    }
 }

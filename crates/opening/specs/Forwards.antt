@@ -5,7 +5,7 @@ use Rattle.std.specs.List.{range_with_len, AllByRecursion}
 use Rattle.std.proofs.lemmas.List.FromFn.{length-map-range_with_len, get_or-map-range_with_len}
 use Rattle.std.proofs.ByRecursion.{All-from_get_or}
 use Rattle.network.specs.Laws.{turns_numbered}
-use Rattle.network.specs.Net.{size, fanin, from, turn, signal_at_lem}
+use Rattle.network.specs.Net.{size, fanin, from, turn, signal_by_turn}
 use Rattle.network.specs.declared.network.Network.{Network}
 use Rattle.opening.specs.declared.forwards.Forwards.{Forwards}
 use Rattle.settling.specs.declared.tap.Tap.{Tap}
@@ -20,7 +20,7 @@ forwards net = record {
   size = size net;
   taps = λ s. map (tap_of net s) (range_with_len 0 (fanin net s));
   turn = turn net;
-  signal_at = signal_at_lem net;
+  signal_at = signal_by_turn net;
 }
 
 -- what holds of f k for each k below n holds of all the list

@@ -1,6 +1,6 @@
 // How a pin moves its gate.
 ghost use Rattle.std.specs.Prelude.{◌≡◌, ◌^◌, ◌<◌, ◌≤◌};
-ghost use Rattle.network.specs.Senses.{goes_to_lem, moves_in_lem, moves as moved, raises as raised, lowers as lowered, sense_of};
+ghost use Rattle.network.specs.Senses.{steps_to, moved_in, moves as moved, raises as raised, lowers as lowered, sense_of};
 
 use crate::gate::Gate;
 use crate::gate::truth::has_bit;
@@ -8,7 +8,7 @@ use crate::sense::Sense;
 
 // Is it a step to `to` from the other value?
 fn goes_to(to: bool, before: bool, after: bool) -> bool
-    ensures { result ≡ goes_to_lem to before after }
+    ensures { result ≡ steps_to to before after }
 {
     before != after && after == to
 }
@@ -35,7 +35,7 @@ impl Gate {
     fn moves_in(&self, pin: usize, to: bool, setting: usize) -> bool
         requires pin { pin < 4 }
         requires setting { setting < 16 }
-        ensures { result ≡ moves_in_lem self.now pin to setting }
+        ensures { result ≡ moved_in self.now pin to setting }
     {
         let switched = setting + weight(pin);
         !has_bit(setting, pin) && goes_to(to, self.value(setting), self.value(switched))

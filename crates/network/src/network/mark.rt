@@ -1,15 +1,16 @@
 // Marks on what a gate reaches.
 ghost use Rattle.std.specs.Prelude.{◌≡◌, ◌+◌, ◌<◌, ◌≤◌, length};
+ghost use Rattle.std.specs.List.{list_any};
 ghost use Rattle.network.specs.Marks.{marked, MarkedBelow, MarksReached};
-ghost use Rattle.network.specs.Net.{size, fanin, from};
-ghost use Rattle.network.specs.Tally.{some};
+ghost use Rattle.network.specs.Net.{signals, size};
+ghost use Rattle.network.specs.Wiring.{feeders};
 
 use crate::network::Network;
 
 // Does a pin of the signal read a marked one?
 fn reads_marked(net: &Network, strip: &[u8], signal: usize) -> bool
     requires { size net.now ≤ length strip.now }
-    ensures { result ≡ some (λ k. marked strip.now (from net.now signal k)) (fanin net.now signal) }
+    ensures { result ≡ list_any (marked strip.now) (feeders (signals net.now) signal) }
 {
     net.feeders(signal)
         .iter()

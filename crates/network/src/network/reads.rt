@@ -2,7 +2,7 @@
 ghost use Rattle.std.specs.Prelude.{◌≡◌, ◌≤◌};
 ghost use Rattle.std.specs.List.{slice_get};
 ghost use Rattle.network.specs.Limit.{max_signals};
-ghost use Rattle.network.specs.Net.{signals as signals_of, size as size_of, name_of, driver_of, is_output_lem, is_captured_lem, is_endpoint_lem, is_source_of, fanin};
+ghost use Rattle.network.specs.Net.{signals as signals_of, size as size_of, name_of, driver_of, is_output_of, is_captured_of, is_endpoint_of, is_source_of, fanin};
 
 use crate::network::Network;
 use crate::signal::{Driver, Signal};
@@ -40,21 +40,21 @@ impl Network {
 
     /// Does a line of outputs name the signal?
     pub fn is_output(&self, signal: usize) -> bool
-        ensures { result ≡ is_output_lem self.now signal }
+        ensures { result ≡ is_output_of self.now signal }
     {
         self.get(signal).is_some_and(|found| found.output)
     }
 
     /// Does a latch read the signal?
     pub fn is_captured(&self, signal: usize) -> bool
-        ensures { result ≡ is_captured_lem self.now signal }
+        ensures { result ≡ is_captured_of self.now signal }
     {
         self.get(signal).is_some_and(|found| found.captured)
     }
 
     /// Is the signal an output, or read by a latch?
     pub fn is_endpoint(&self, signal: usize) -> bool
-        ensures { result ≡ is_endpoint_lem self.now signal }
+        ensures { result ≡ is_endpoint_of self.now signal }
     {
         self.is_output(signal) || self.is_captured(signal)
     }

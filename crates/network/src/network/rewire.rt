@@ -3,7 +3,7 @@ ghost use Rattle.std.specs.Prelude.{◌≡◌, ◌<◌, ◌≤◌, false, length
 ghost use Rattle.network.specs.Marks.{marked, MarksReached};
 ghost use Rattle.network.specs.Net.{signals as signals_of, size as size_of, fanin};
 ghost use Rattle.network.specs.Rewiring.{rewired, rewired_at, Accepted, Refused};
-ghost use Rattle.network.specs.Wiring.{pin_count_lem};
+ghost use Rattle.network.specs.Wiring.{number_of_pins};
 
 use crate::network::Network;
 use crate::network::mark::mark_reached;
@@ -16,7 +16,7 @@ pub struct ClosesCycle;
 impl Signal {
     // The signal with another feeder at a pin of its gate.
     fn with_feeder(self, pin: usize, feeder: u16) -> Signal
-        requires { pin < pin_count_lem self.driver }
+        requires { pin < number_of_pins self.driver }
         ensures { result ≡ rewired self pin feeder }
     {
         match self.driver {

@@ -1,6 +1,6 @@
 // Turns and wires: for every number, and lean where the number is known to be one.
-ghost use Rattle.std.specs.Prelude.{◌≡◌, ℕ, ◌<◌, length, slice_index};
-ghost use Rattle.network.specs.Net.{signals as signals_of, size as size_of, turn as turn_of, signal_at_lem, fanin, from, turn_if, signal_at_if, from_if};
+ghost use Rattle.std.specs.Prelude.{◌≡◌, ◌<◌, All};
+ghost use Rattle.network.specs.Net.{signals as signals_of, size as size_of, turn as turn_of, signal_by_turn, fanin, from, turn_if, signal_at_if, from_if};
 ghost use Rattle.network.specs.Wiring.{feeders as feeders_of};
 
 use crate::network::Network;
@@ -40,7 +40,7 @@ impl Network {
     /// The signal at a turn that there is.
     pub fn signal_at(&self, turn: u16) -> usize
         requires { turn < size_of self.now }
-        ensures is { result ≡ signal_at_lem self.now turn }
+        ensures is { result ≡ signal_by_turn self.now turn }
         ensures within { result < size_of self.now }
         ensures back { turn_of self.now result ≡ turn }
     {
@@ -50,7 +50,7 @@ impl Network {
     // The signals at the pins of a signal's gate; none where no gate drives it.
     pub(crate) fn feeders(&self, signal: usize) -> &[u16]
         ensures is { result.now ≡ feeders_of (signals_of self.now) signal }
-        ensures within { (k : ℕ) → k < length result.now → slice_index result.now k < size_of self.now }
+        ensures within { All (λ f. f < size_of self.now) result.now }
     {
         let wires = Wires {
             signals: &self.signals,

@@ -7,6 +7,8 @@ ghost use Rattle.network.specs.Turns.{count_of, turns_of, order_of};
 
 use crate::turns::Turns;
 
+// What these functions ask of the lists stands with each: no type can hold it while the turns change.
+
 // Does the signal have a mark, or none, whichever is wanted?
 fn is_picked(marks: &[u8], wanted: bool, signal: usize) -> bool
     requires { signal < length marks.now }

@@ -1,12 +1,14 @@
 // The turns that signals have at first.
-ghost use Rattle.std.specs.Prelude.{◌≡◌, ◌≤◌, vec_capacity};
+ghost use Rattle.std.specs.Prelude.{◌≡◌, ◌≤◌, IfOk, vec_capacity};
 ghost use Rattle.std.specs.List.{range_with_len};
 ghost use Rattle.network.specs.Limit.{max_signals};
 ghost use Rattle.network.specs.Turns.{count_of};
 
+use crate::limit::MAX_SIGNALS;
 use crate::turns::Turns;
+use std::alloc::{AllocError, Global};
 
-// Makes the list 0, 1, .. of so many numbers.
+// Makes the list 0, 1, .. of so many numbers, one by one: `extend` would ask for memory.
 fn count_up(numbers: &mut Vec<u16>, count: usize)
     requires few { count ≤ max_signals }
     requires room { max_signals ≤ vec_capacity numbers.old }
@@ -20,6 +22,15 @@ fn count_up(numbers: &mut Vec<u16>, count: usize)
 }
 
 impl Turns {
+    /// Room for the turns, of which there are none yet.
+    pub fn new(heap: Global) -> Result<Turns, AllocError>
+        ensures { IfOk result (λ t. count_of t ≡ 0) }
+    {
+        let turn_of = Vec::with_capacity(heap, MAX_SIGNALS)?;
+        let order = Vec::with_capacity(heap, MAX_SIGNALS)?;
+        Ok(Turns { turn_of, order })
+    }
+
     // Gives so many signals each its own number for its turn.
     pub(crate) fn start(&mut self, count: usize)
         requires { count ≤ max_signals }

@@ -4,7 +4,7 @@ use Rattle.network.specs.Limit.{max_signals}
 use Rattle.network.specs.Net.{signals, size}
 use Rattle.network.specs.Rewiring.{rewired, rewired_at}
 use Rattle.network.specs.Turns.{turns_of}
-use Rattle.network.specs.Wiring.{absent, pin_count_lem, Driven, Wired, LatchesWired, Climbs}
+use Rattle.network.specs.Wiring.{absent, number_of_pins, Driven, Wired, LatchesWired, Climbs}
 use Rattle.network.specs.declared.network.Network.{Network}
 use Rattle.network.specs.declared.signal.Signal.{Signal}
 use Rattle.network.proofs.Connecting.{climbs_anew}
@@ -12,19 +12,19 @@ use Rattle.network.proofs.Ends.{ends_within}
 use Rattle.network.proofs.Rewired.{rewired_length, rewired_driven, rewired_wired, rewired_latched}
 use Rattle.network.proofs.network.Network.connect.Goals as goal
 
-here : (net : Network) (gate pin : ℕ) → pin < pin_count_lem (get_or (signals net) gate absent).driver → gate < vec_len net.signals
+here : (net : Network) (gate pin : ℕ) → pin < number_of_pins (get_or (signals net) gate absent).driver → gate < vec_len net.signals
 here net gate pin there = omega (arith, ends_within (signals net) gate pin there, net.signals.ok.0)
 
 pub index-requires : goal.index-requires
 index-requires c = here c.args.self.now c.args.gate c.args.pin c.requires.there
 
-read : (net : Network) (gate pin : ℕ) (x : Signal) → pin < pin_count_lem (get_or (signals net) gate absent).driver → x ≡ get_or (signals net) gate x → x ≡ get_or (signals net) gate absent
+read : (net : Network) (gate pin : ℕ) (x : Signal) → pin < number_of_pins (get_or (signals net) gate absent).driver → x ≡ get_or (signals net) gate x → x ≡ get_or (signals net) gate absent
 read net gate pin x there e = get_or_read_under (signals net) gate (vec_len net.signals) x absent e (here net gate pin there) net.signals.ok.0
 
 pub with_feeder-requires : goal.with_feeder-requires
 with_feeder-requires c =
     let is = read c.args.self.now c.args.gate c.args.pin c.index.result.now c.requires.there c.index.ensures in
-    subst (λ (x : Signal). c.args.pin < pin_count_lem x.driver) (sym is) c.requires.there
+    subst (λ (x : Signal). c.args.pin < number_of_pins x.driver) (sym is) c.requires.there
 
 pub index_mut-requires : goal.index_mut-requires
 index_mut-requires c = here c.args.self.now c.args.gate c.args.pin c.requires.there
