@@ -12,9 +12,10 @@ pub fn read(text: &[u8], room: Room) -> Result<Network, NetlistFault>
     ensures { Means text.now (network_on text.now result) }
 {
     let draft = read_signals(text, room)?;
-    Network::of_signals(draft.signals, draft.turns).map_err(
-        |cyclic| NetlistFault::new(Cause::Cycle, cyclic.name.at),
-    )
+    Network::of_signals(draft.signals, draft.turns).map_err(|cyclic| NetlistFault::new(
+        Cause::Cycle,
+        cyclic.name.at,
+    ))
 }
 
 /// A text means one thing, so no other answer would do.
