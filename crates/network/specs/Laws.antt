@@ -15,6 +15,7 @@ TurnsNumber net =
     ((s : ℕ) → s < size net → (turn net s < size net) × (signal_by_turn net (turn net s) ≡ s))
     × ((t : ℕ) → t < size net → (signal_by_turn net t < size net) × (turn net (signal_by_turn net t) ≡ t))
 
+-- and so they do
 pub turns_numbered : (net : Network) → TurnsNumber net
 turns_numbered net = (
   λ s l.
