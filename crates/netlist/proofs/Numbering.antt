@@ -11,7 +11,7 @@ use Rattle.network.specs.declared.signal.Signal as code
 use Rattle.network.specs.declared.span.Span.{Span}
 use Rattle.text.specs.Words.{one_of}
 use Rattle.netlist.specs.declared.signals.Signals.{Signals}
-use Rattle.netlist.specs.Outcomes.{Numbers}
+use Rattle.netlist.specs.Outcomes.{Numbered}
 use Rattle.netlist.specs.Faults.{too_many}
 use Rattle.netlist.specs.Signals.{Signal, number_of, Known}
 use Rattle.netlist.specs.Views.{piece_on, bytes_of, signal_on, signals_on, signals_in}
@@ -50,22 +50,22 @@ module _ (t n : List ℕ) where
       flip true e = refl
       flip false e = omega (arith, e)
 
-  numbers_of : (ss : List Signal) (k : ℕ) → k ≡ number_of ss n → Numbers ss n (cond (ltb k (length ss)) (Some k) None)
+  numbers_of : (ss : List Signal) (k : ℕ) → k ≡ number_of ss n → Numbered ss n (cond (ltb k (length ss)) (Some k) None)
   numbers_of ss k e = grind arith
 
-  pub position_is : (ss : List code.Signal) {r : Option ℕ} → r ≡ cond (ltb (position_or_len called ss) (length ss)) (Some (position_or_len called ss)) None → Numbers (signals_on t ss) n r
+  pub position_is : (ss : List code.Signal) {r : Option ℕ} → r ≡ cond (ltb (position_or_len called ss) (length ss)) (Some (position_or_len called ss)) None → Numbered (signals_on t ss) n r
   position_is ss e =
       let xs : List Signal = signals_on t ss in
-      subst (Numbers xs n)
+      subst (Numbered xs n)
       (ap (λ (m : ℕ). cond (ltb (position_or_len called ss) m) (Some (position_or_len called ss)) None) (length-map ss (signal_on t)) ∙ sym e)
       (numbers_of xs (position_or_len called ss) (first_called ss))
 
 -- ---- a number, or none
 
-pub is_known : (ss : List Signal) (n : List ℕ) (o : Option ℕ) → true ≡ is_some o → Numbers ss n o → Known ss n
+pub is_known : (ss : List Signal) (n : List ℕ) (o : Option ℕ) → true ≡ is_some o → Numbered ss n o → Known ss n
 is_known ss n None e h = absurd (true≢false e)
 is_known ss n (Some k) e h = h.0
 
-pub is_new : (ss : List Signal) (n : List ℕ) (o : Option ℕ) → false ≡ is_some o → Numbers ss n o → length ss ≤ number_of ss n
+pub is_new : (ss : List Signal) (n : List ℕ) (o : Option ℕ) → false ≡ is_some o → Numbered ss n o → length ss ≤ number_of ss n
 is_new ss n None e h = h
 is_new ss n (Some k) e h = absurd (false≢true e)

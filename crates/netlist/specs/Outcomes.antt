@@ -38,10 +38,11 @@ LatchWords text ws None = false ≡ latch_rest (pieces text ws)
 LatchWords text ws (Some w) = (true ≡ latch_rest (pieces text ws)) × (trigger_words w.0 ++ initial_word w.1 ≡ ws)
 
 -- the number of the signal of this name, if there is one
-abbrev pub Numbers : List Signal → List ℕ → Option ℕ → Type 0
-Numbers ss n None = length ss ≤ number_of ss n
-Numbers ss n (Some k) = Known ss n × (k ≡ number_of ss n)
+abbrev pub Numbered : List Signal → List ℕ → Option ℕ → Type 0
+Numbered ss n None = length ss ≤ number_of ss n
+Numbered ss n (Some k) = Known ss n × (k ≡ number_of ss n)
 
+-- how far the code has come
 abbrev pub state_on : List ℕ → code.State → State
 state_on text s = state s.stage (signals_in text s.signals)
 

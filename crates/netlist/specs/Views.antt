@@ -39,6 +39,7 @@ signal_on text s = record { name = piece_on text s.name; driver = driver_on text
 abbrev pub signals_on : List ℕ → List Signal → List signals.Signal
 signals_on text ss = map (signal_on text) ss
 
+-- of the code's store of signals
 abbrev pub signals_in : List ℕ → Signals → List signals.Signal
 signals_in text ss = signals_on text (vec_items ss.items)
 

@@ -3,7 +3,7 @@ ghost use Rattle.std.specs.Prelude.{◌≡◌, ◌<◌, ◌≤◌, length, take}
 ghost use Rattle.network.specs.Limit.{max_signals};
 ghost use Rattle.netlist.specs.Signals.{number_of, numbers, Known, Mentioned};
 ghost use Rattle.netlist.specs.Views.{piece_on, pieces, signals_in};
-ghost use Rattle.netlist.specs.Outcomes.{Numbers};
+ghost use Rattle.netlist.specs.Outcomes.{Numbered};
 
 use crate::names::is_named;
 use crate::signals::Signals;
@@ -13,7 +13,7 @@ use network::span::Span;
 impl Signals {
     /// The number of the signal of this name, if there is one.
     pub(crate) fn position(&self, text: &[u8], name: Span) -> Option<usize>
-        ensures { Numbers (signals_in text.now self.now) (piece_on text.now name).bytes result }
+        ensures { Numbered (signals_in text.now self.now) (piece_on text.now name).bytes result }
     {
         let name = word_at(text, name).text;
         self.items.iter().position(|s| is_named(text, s.name, name))
