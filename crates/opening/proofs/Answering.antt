@@ -8,7 +8,7 @@ use Rattle.delays.specs.Outlines.{outline_of}
 use Rattle.delays.specs.Tables.{table_of}
 use Rattle.delays.specs.declared.faults.DelayFault.{DelayFault}
 use Rattle.delays.specs.declared.faults.DelayFault.TheVariants.{TooShort, LowLimit}
-use Rattle.opening.specs.Boards.{View, is_short_lem}
+use Rattle.opening.specs.Boards.{View, is_short}
 use Rattle.opening.specs.Opens.{counted, room_of, answer_of}
 
 -- the tables of a board that is not short
@@ -17,7 +17,7 @@ pub record Long {V : Type 0} (view : View V) : Type 0 where
   pub weights : 4 * size view.network ≤ length view.weights
   pub values : size view.network ≤ length view.values
 
-pub long : {V : Type 0} (view : View V) → is_short_lem view ≡ false → Long view
+pub long : {V : Type 0} (view : View V) → is_short view ≡ false → Long view
 long view h =
     let n = size view.network in
     let first = or_parts (ltb (length view.starts) n) (ltb (length view.weights) (4 * n) || ltb (length view.values) n) h in
@@ -37,7 +37,7 @@ room_ok true low h = let z : ◌≡◌ {A = ℕ} 0 1 = cc in absurd (omega arith
 
 -- a board that has room is not short
 pub roomy : {V : Type 0} (view : View V) (limit : ℕ) → Ok tt ≡ room_of view limit → Long view
-roomy view limit h = long view (room_ok (is_short_lem view) (ltb limit (size view.network)) h)
+roomy view limit h = long view (room_ok (is_short view) (ltb limit (size view.network)) h)
 
 -- the answer of a board that has room
 pub answered : {V : Type 0} (view : View V) (limit : ℕ) (file : List ℕ) → Ok tt ≡ room_of view limit

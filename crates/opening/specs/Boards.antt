@@ -20,7 +20,7 @@ abbrev pub view_at : {V : Type 0} → MutBor Network × (MutBor (List V) × (Mut
 view_at (network, (starts, (weights, (values, end)))) = record { network = network.now; starts = starts.now; weights = weights.now; values = values.now }
 
 -- a table has too few cells
-abbrev pub is_short_lem : {V : Type 0} → View V → Bool
-is_short_lem view =
+abbrev pub is_short : {V : Type 0} → View V → Bool
+is_short view =
     nat_lt (length view.starts) (size view.network)
     || (nat_lt (length view.weights) (4 * size view.network) || nat_lt (length view.values) (size view.network))

@@ -14,8 +14,8 @@ use Rattle.delays.specs.Outlines.{outline_of}
 use Rattle.delays.specs.Tables.{table_of, pin_times, source_times}
 use Rattle.delays.specs.declared.faults.DelayFault.{DelayFault}
 use Rattle.delays.specs.declared.faults.DelayFault.TheVariants.{TooShort, LowLimit}
-use Rattle.opening.specs.Boards.{View, is_short_lem}
-use Rattle.opening.specs.Cells.{table, start_at, weight_at_lem, starts_by, weights_by}
+use Rattle.opening.specs.Boards.{View, is_short}
+use Rattle.opening.specs.Cells.{table, start_at, weight_at, starts_by, weights_by}
 use Rattle.opening.specs.declared.open.Opened.{Opened}
 
 -- a clock, with the number of signals
@@ -25,7 +25,7 @@ counted n (Err d) = Err d
 
 -- a short table is judged first, then a low limit
 abbrev pub room_of : {V : Type 0} → View V → (limit : ℕ) → Result (Unit {0}) DelayFault
-room_of view limit = cond (is_short_lem view) (Err TooShort) (cond (nat_lt limit (size view.network)) (Err LowLimit) (Ok tt))
+room_of view limit = cond (is_short view) (Err TooShort) (cond (nat_lt limit (size view.network)) (Err LowLimit) (Ok tt))
 
 -- and then the delay table
 abbrev pub answer_of : {V : Type 0} → View V → (limit : ℕ) (file : List ℕ) → Result Opened DelayFault
@@ -37,7 +37,7 @@ module _ {G : Type 0} (r : Ops G) (delays : ℕ → ℕ → G) where
   file_web net file = record {
     size = size net;
     start = λ s. start_at r delays net s (source_times file s);
-    into = λ s. map (λ k. record { from = from net s k; weight = weight_at_lem r delays net s k (pin_times file s k) }) (range_with_len 0 (fanin net s));
+    into = λ s. map (λ k. record { from = from net s k; weight = weight_at r delays net s k (pin_times file s k) }) (range_with_len 0 (fanin net s));
   }
 
   -- the opened board: starts and weights by the delay table, each value its path sum, and the cells past the end as they were
