@@ -45,7 +45,7 @@ module _ {A : Type 0} (says : Content → Result A FieldFault) where
       skips k (at + 1) xs ∙ ap (λ (n : ℕ). placed says 0 n (drop k xs)) e
 
   -- the field at the front, and those behind it
-  front : (bytes : List ℕ) (at : ℕ) → 0 < length bytes
+  pub front : (bytes : List ℕ) (at : ℕ) → 0 < length bytes
       → placed says 0 at bytes
       ≡ record { at = at; said = said_at says bytes at } ∷ placed says 0 (at + (3 + size_of bytes)) (drop (3 + size_of bytes) bytes)
   front [] at h = absurd (omega arith)
