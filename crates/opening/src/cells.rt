@@ -1,7 +1,6 @@
 // What stands in a cell for a signal or a pin.
 ghost use Rattle.std.specs.Prelude.{◌≡◌, slice_set};
-ghost use Rattle.delays.specs.Tables.{no_times};
-ghost use Rattle.opening.specs.Cells.{start_at, driver_weight, weight_at, weight_in};
+ghost use Rattle.opening.specs.Cells.{start_at, driver_weight, weight_at};
 
 use gauge::gauges::Gauge;
 use gauge::matrix::EdgeMatrix;
@@ -56,18 +55,4 @@ pub fn weight_at<G: Gauge>(
 {
     let driver = network.driver(signal).unwrap_or(Driver::Undriven);
     driver_weight(driver, pin, times)
-}
-
-// The start of a signal that the delay table does not name.
-pub(crate) fn unnamed_start<G: Gauge>(network: &Network, signal: usize) -> EdgeMatrix<G>
-    ensures { result ≡ start_at G.Semiring.ops G.Gauge.delays network.now signal no_times }
-{
-    start_at(network, signal, Times::default())
-}
-
-// The weight in the cell of a pin that the delay table does not name.
-pub(crate) fn unnamed_weight<G: Gauge>(network: &Network, cell: usize) -> EdgeMatrix<G>
-    ensures { result ≡ weight_in G.Semiring.ops G.Gauge.delays network.now cell no_times }
-{
-    weight_at(network, cell / 4, cell % 4, Times::default())
 }
