@@ -1,5 +1,5 @@
 -- Boards that have room, and what opening them answers.
-use Rattle.std.proofs.Common.{◌≡◌, ℕ, ◌*◌, ◌≤◌, Bool, true, false, cond, ◌||◌, ltb, List, length, Ok, Err, Result, refl, ap, ◌∙◌, arith}
+use Rattle.std.proofs.Common.{◌≡◌, ℕ, ◌*◌, ◌≤◌, Bool, false, cond, ◌||◌, ltb, List, length, Ok, Err, Result, ap, ◌∙◌, arith}
 use Rattle.std.specs.Result.{result_and}
 use Rattle.std.proofs.lemmas.Bool.{ltb-false, or_parts}
 use Rattle.network.specs.Net.{size}
@@ -32,8 +32,7 @@ abbrev room : (short low : Bool) → Result (Unit {0}) DelayFault
 room short low = cond short (Err TooShort) (cond low (Err LowLimit) (Ok tt))
 
 room_ok : (short low : Bool) → Ok tt ≡ room short low → short ≡ false
-room_ok false low h = refl
-room_ok true low h = let z : ◌≡◌ {A = ℕ} 0 1 = cc in absurd (omega arith)
+room_ok short low h = grind arith
 
 -- a board that has room is not short
 pub roomy : {V : Type 0} (view : View V) (limit : ℕ) → Ok tt ≡ room_of view limit → Long view

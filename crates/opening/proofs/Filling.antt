@@ -53,7 +53,7 @@ module _ (net : Network) {V : Type 0} (writes : Result Entry FieldFault → List
           ⊎_elim
           (λ (named : names f part ≡ true).
           let some : naming (f ∷ fs) part ≡ f ∷ naming fs part = cond-true _ _ _ named in
-          let z : ◌≡◌ {A = ℕ} 0 1 = cc in absurd (omega arith))
+          grind arith)
           (λ (off : names f part ≡ false).
           after_same (writes f.said cells) fs fit.1 (sym (cond-false _ _ _ off) ∙ none) ∙ holds.other f.said cells d fit.0 off)
           (cases_Bool (names f part))
@@ -136,8 +136,8 @@ module _ {G : Type 0} (r : Ops G) (delays : ℕ → ℕ → G) (net : Network) w
   module _ (s : ℕ) where
     start_here : (said : Result Entry FieldFault) (cells : List (EdgeMatrix G)) (d : EdgeMatrix G) → Fits (outline_of net) said → size net ≤ length cells
         → names_in said (Source s) ≡ true → get_or (starts_with r delays net said cells) s d ≡ start_at r delays net s (times_in said)
-    start_here (Ok (entry.Clock c)) cells d fit enough named = let z : ◌≡◌ {A = ℕ} 0 1 = cc in absurd (omega arith)
-    start_here (Ok (entry.Delay g p t)) cells d fit enough named = let z : ◌≡◌ {A = ℕ} 0 1 = cc in absurd (omega arith)
+    start_here (Ok (entry.Clock c)) cells d fit enough named = grind arith
+    start_here (Ok (entry.Delay g p t)) cells d fit enough named = grind arith
     start_here (Ok (entry.Start u t)) cells d fit enough named =
         let same = eqb-true s u named in
         let lt : u < length cells = omega (arith, source_within u fit) in
@@ -157,8 +157,8 @@ module _ {G : Type 0} (r : Ops G) (delays : ℕ → ℕ → G) (net : Network) w
   module _ (g p : ℕ) (low : p < 4) where
     weight_here : (said : Result Entry FieldFault) (cells : List (EdgeMatrix G)) (d : EdgeMatrix G) → Fits (outline_of net) said → 4 * size net ≤ length cells
         → names_in said (Pin g p) ≡ true → get_or (weights_with r delays net said cells) (4 * g + p) d ≡ weight_at r delays net g p (times_in said)
-    weight_here (Ok (entry.Clock c)) cells d fit enough named = let z : ◌≡◌ {A = ℕ} 0 1 = cc in absurd (omega arith)
-    weight_here (Ok (entry.Start s t)) cells d fit enough named = let z : ◌≡◌ {A = ℕ} 0 1 = cc in absurd (omega arith)
+    weight_here (Ok (entry.Clock c)) cells d fit enough named = grind arith
+    weight_here (Ok (entry.Start s t)) cells d fit enough named = grind arith
     weight_here (Ok (entry.Delay h q t)) cells d fit enough named =
         let both = and_parts (eqb g h) (eqb p q) named in
         let eg = eqb-true g h both.0 in
