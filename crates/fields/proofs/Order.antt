@@ -69,8 +69,8 @@ module _ {A : Type 0} (says : Content → Result A FieldFault) where
   fields_none file at h = ap (placed says 0 at) (drop_all at file h)
 
   never : (before after : List (Placed A)) (f : Placed A) → ◌≡◌ {A = List (Placed A)} [] (before ++ (f ∷ after)) → ⊥
-  never [] after f h = let z : ◌≡◌ {A = ℕ} 0 1 = cc in omega arith
-  never (b ∷ before) after f h = let z : ◌≡◌ {A = ℕ} 0 1 = cc in omega arith
+  never [] after f h = grind arith
+  never (b ∷ before) after f h = grind arith
 
   -- the bytes up to a field's tag, of fields in any bytes
   prefix : (skip at : ℕ) (xs : List ℕ) (before after : List (Placed A)) (f : Placed A)
