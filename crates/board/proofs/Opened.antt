@@ -16,8 +16,8 @@ use Rattle.network.specs.declared.signal.Driver.TheVariants.{Undriven, Input, La
 use Rattle.delays.proofs.Marking.{small}
 use Rattle.settling.specs.Tables.{cells}
 use Rattle.settling.proofs.Shapes.{ranks}
-use Rattle.opening.specs.Boards.{View, is_short_lem}
-use Rattle.opening.specs.Cells.{driver_weight_lem}
+use Rattle.opening.specs.Boards.{View, is_short}
+use Rattle.opening.specs.Cells.{driver_weight}
 use Rattle.opening.specs.Forwards.{forwards, forwards_sound}
 use Rattle.opening.specs.Opens.{opened_view}
 use Rattle.opening.proofs.Agreeing.{counted_same, file_sums}
@@ -30,13 +30,13 @@ use Rattle.board.proofs.Webs.{book_long, entry_of, webs_agree}
 
 module _ {G : Type 0} (r : Ops G) (delays : ℕ → ℕ → G) where
   -- a pin that is there weighs by its sense
-  pin_weight : (d : Driver) (k : ℕ) (t : Times) → k < number_of_pins d → driver_weight_lem r delays d k t ≡ weight_of r delays (raises_in d k) (lowers_in d k) t
+  pin_weight : (d : Driver) (k : ℕ) (t : Times) → k < number_of_pins d → driver_weight r delays d k t ≡ weight_of r delays (raises_in d k) (lowers_in d k) t
   pin_weight Undriven k t l = absurd (omega arith)
   pin_weight Input k t l = absurd (omega arith)
   pin_weight (Latched _) k t l = absurd (omega arith)
   pin_weight (Gated g) k t l = cond-true _ (weight_of r delays (raises g k) (lowers g k) t) (edge_ops r).zero (lt-ltb k g.pin_count l)
 
-  pub opened_is_filed : (file : List ℕ) (view : View (EdgeMatrix G)) → is_short_lem view ≡ false
+  pub opened_is_filed : (file : List ℕ) (view : View (EdgeMatrix G)) → is_short view ≡ false
       → book_of (edge_ops r) (opened_view r delays file view) ≡ filed r delays (signals view.network) file
   opened_is_filed file view fits =
       let xs = signals view.network in
@@ -49,7 +49,7 @@ module _ {G : Type 0} (r : Ops G) (delays : ℕ → ℕ → G) where
       ∙ entry_same d (filed_start r delays xs file s) (filed_weight r delays xs file s) _
       (λ k lk. holds.weights s k in' (omega (arith, (small view.network).pins s)) ∙ pin_weight d k _ lk))
 
-  pub opened_sums : Laws r → (file : List ℕ) (view : View (EdgeMatrix G)) → is_short_lem view ≡ false → Sums (edge_ops r) (opened_view r delays file view)
+  pub opened_sums : Laws r → (file : List ℕ) (view : View (EdgeMatrix G)) → is_short view ≡ false → Sums (edge_ops r) (opened_view r delays file view)
   opened_sums laws file view fits s l =
       let net = view.network in
       let opened = opened_view r delays file view in

@@ -2,7 +2,7 @@
 use Rattle.std.proofs.Common.{◌≡◌, ℕ, false, List, [], ◌∷◌, ◌++◌, map, length, Result, refl, ap, ◌∙◌, subst, ap₂, arith}
 use Rattle.gauge.specs.Semirings.{Ops, Laws}
 use Rattle.gauge.specs.declared.matrix.EdgeMatrix.{EdgeMatrix}
-use Rattle.opening.specs.Boards.{View, is_short_lem}
+use Rattle.opening.specs.Boards.{View, is_short}
 use Rattle.opening.specs.Opens.{opened_view}
 use Rattle.opening.proofs.Holding.{opened_holds}
 use Rattle.book.specs.declared.script_fault.ScriptFault.{ScriptFault}
@@ -16,7 +16,7 @@ use Rattle.board.proofs.Still.{chain_keeps}
 
 module _ {G : Type 0} (r : Ops G) (delays : ℕ → ℕ → G) where
   -- opening leaves the tables as long as they were
-  pub opened_lends : (file : List ℕ) (x : View (EdgeMatrix G)) → is_short_lem x ≡ false → (strip limit : ℕ)
+  pub opened_lends : (file : List ℕ) (x : View (EdgeMatrix G)) → is_short x ≡ false → (strip limit : ℕ)
       → lent_of (opened_view r delays file x) strip limit ≡ lent_of x strip limit
   opened_lends file x fits strip limit =
       let holds = opened_holds G r delays file x fits in

@@ -9,7 +9,7 @@ use Rattle.network.specs.declared.signal.Driver.{Driver}
 use Rattle.network.specs.declared.signal.Driver.TheVariants.{Undriven, Input, Latched, Gated}
 use Rattle.network.specs.declared.signal.Latch.{Latch}
 use Rattle.settling.specs.Tables.{cells}
-use Rattle.opening.specs.Boards.{View, is_short_lem}
+use Rattle.opening.specs.Boards.{View, is_short}
 use Rattle.opening.specs.Laws.{SamePast}
 use Rattle.opening.specs.Opens.{opened_view}
 use Rattle.book.specs.declared.script_fault.ScriptFault.{ScriptFault}
@@ -64,7 +64,7 @@ module _ {G : Type 0} (r : Ops G) (delays : ℕ → ℕ → G) where
 
   -- so it is with every chain of calls on an opened board
   abbrev pub RunsFollow : Type 0
-  RunsFollow = (file : List ℕ) (ms : List Made) (x y : View (EdgeMatrix G)) → is_short_lem x ≡ false
+  RunsFollow = (file : List ℕ) (ms : List Made) (x y : View (EdgeMatrix G)) → is_short x ≡ false
       → Chained r delays ms (opened_view r delays file x) y → RunFollows file ms x y
 
   -- a script that stops at a field leaves a board that the script of the bytes before that field leaves, whatever the values

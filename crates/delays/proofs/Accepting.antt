@@ -19,19 +19,15 @@ same_part_lem : (a b : Part) → same_part a b ≡ true → a ≡ b
 same_part_lem (Pin g p) (Pin h q) is =
     let both = and_parts (eqb g h) (eqb p q) is in
     ap (λ (x : ℕ). Pin x p) (eqb-true g h both.0) ∙ ap (Pin h) (eqb-true p q both.1)
-same_part_lem (Pin g p) (Source s) is = let z : ◌≡◌ {A = ℕ} 0 1 = cc in absurd (omega arith)
-same_part_lem (Source s) (Pin g p) is = let z : ◌≡◌ {A = ℕ} 0 1 = cc in absurd (omega arith)
+same_part_lem (Pin g p) (Source s) is = grind arith
+same_part_lem (Source s) (Pin g p) is = grind arith
 same_part_lem (Source s) (Source u) is = ap Source (eqb-true s u is)
 
 both_none : (o r : Option DelayFault) → option_or o r ≡ None → (o ≡ None) × (r ≡ None)
-both_none None r h = (refl, h)
-both_none (Some d) r h = let z : ◌≡◌ {A = ℕ} 0 1 = cc in absurd (omega arith)
+both_none o r h = grind arith
 
 part_good : (there early again : Bool) (at : ℕ) → part_fault there early again at ≡ None → (there ≡ true) × (again ≡ false)
-part_good true false false at h = (refl, refl)
-part_good true false true at h = let z : ◌≡◌ {A = ℕ} 0 1 = cc in absurd (omega arith)
-part_good true true again at h = let z : ◌≡◌ {A = ℕ} 0 1 = cc in absurd (omega arith)
-part_good false early again at h = let z : ◌≡◌ {A = ℕ} 0 1 = cc in absurd (omega arith)
+part_good there early again at h = grind arith
 
 module _ (outline : Outline) where
   -- a field without fault fits, and names no part that is named before
@@ -40,14 +36,14 @@ module _ (outline : Outline) where
     pub fresh : (part : Part) → names_in said part ≡ true → named before part ≡ false
 
   said_good : (before : List (Placed Entry)) (at : ℕ) (said : Result Entry FieldFault) → said_fault outline before at said ≡ None → Good before said
-  said_good before at (Ok (entry.Clock c)) h = let z : ◌≡◌ {A = ℕ} 0 1 = cc in absurd (omega arith)
+  said_good before at (Ok (entry.Clock c)) h = grind arith
   said_good before at (Ok (entry.Delay g p t)) h =
       let good = part_good (has outline (Pin g p)) (too_early t) (named before (Pin g p)) at h in
       record { fits = good.0; fresh = λ part is. ap (named before) (same_part_lem part (Pin g p) is) ∙ good.1 }
   said_good before at (Ok (entry.Start s t)) h =
       let good = part_good (has outline (Source s)) (too_early t) (named before (Source s)) at h in
       record { fits = good.0; fresh = λ part is. ap (named before) (same_part_lem part (Source s) is) ∙ good.1 }
-  said_good before at (Err d) h = let z : ◌≡◌ {A = ℕ} 0 1 = cc in absurd (omega arith)
+  said_good before at (Err d) h = grind arith
 
   all_fit : (before fs : List (Placed Entry)) → first_fault outline before fs ≡ None → AllByRecursion (λ f. Fits outline f.said) fs
   all_fit before [] h = tt
@@ -64,7 +60,7 @@ module _ (outline : Outline) where
         ⊎_elim
         (λ (here : names f part ≡ true).
         let not-before = (said_good before f.at f.said both.0).fresh part here in
-        let z : ◌≡◌ {A = ℕ} 0 1 = cc in absurd (omega arith))
+        grind arith)
         (λ (other : names f part ≡ false).
         cond-false _ _ _ other ∙ none_again (f ∷ before) fs both.1 (or_right (names f part) (named before part) is))
         (cases_Bool (names f part))
@@ -91,13 +87,13 @@ module _ (outline : Outline) where
 
   led : (at : ℕ) (said : Result Entry FieldFault) (fault : Option DelayFault) → is_ok (clock_then at said fault) ≡ true → Led said fault
   led at (Ok (entry.Clock c)) None h = record { fits = tt; nameless = λ part. refl; good = refl }
-  led at (Ok (entry.Clock c)) (Some d) h = let z : ◌≡◌ {A = ℕ} 0 1 = cc in absurd (omega arith)
-  led at (Ok (entry.Delay g p t)) fault h = let z : ◌≡◌ {A = ℕ} 0 1 = cc in absurd (omega arith)
-  led at (Ok (entry.Start s t)) fault h = let z : ◌≡◌ {A = ℕ} 0 1 = cc in absurd (omega arith)
-  led at (Err d) fault h = let z : ◌≡◌ {A = ℕ} 0 1 = cc in absurd (omega arith)
+  led at (Ok (entry.Clock c)) (Some d) h = grind arith
+  led at (Ok (entry.Delay g p t)) fault h = grind arith
+  led at (Ok (entry.Start s t)) fault h = grind arith
+  led at (Err d) fault h = grind arith
 
   sound : (fs : List (Placed Entry)) → is_ok (judged outline fs) ≡ true → WellNamed outline fs
-  sound [] h = let z : ◌≡◌ {A = ℕ} 0 1 = cc in absurd (omega arith)
+  sound [] h = grind arith
   sound (f ∷ fs) h =
       let l = led f.at f.said (first_fault outline [] fs) h in
       record {
@@ -108,8 +104,7 @@ module _ (outline : Outline) where
       }
 
 cond_ok : {A : Type 0} (b : Bool) (r : Result A DelayFault) (d : DelayFault) → is_ok (cond b (Err d) r) ≡ true → is_ok r ≡ true
-cond_ok false r d h = h
-cond_ok true r d h = let z : ◌≡◌ {A = ℕ} 0 1 = cc in absurd (omega arith)
+cond_ok b r d h = grind arith
 
 pub accepted_well_named : AcceptedWellNamed
 accepted_well_named outline file h = sound outline (fields entry_of file) (cond_ok (ltb file_limit (length file)) _ _ h)

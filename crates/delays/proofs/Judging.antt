@@ -1,5 +1,5 @@
 -- The fields behind the clock, judged one after another.
-use Rattle.std.proofs.Common.{◌≡◌, ℕ, List, [], ◌∷◌, Some, None, Ok, Err, Option, Result, sym, refl, ap, ◌∙◌, subst, arith}
+use Rattle.std.proofs.Common.{◌≡◌, List, [], ◌∷◌, Some, None, Ok, Err, Option, Result, sym, refl, ap, ◌∙◌, subst, arith}
 use Rattle.std.specs.Option.{option_or}
 use Rattle.fields.specs.declared.entry.Entry.{Entry}
 use Rattle.fields.specs.declared.faults.FieldFault.{FieldFault}
@@ -16,12 +16,10 @@ abbrev pub verdict : Option DelayFault → Result (Unit {0}) DelayFault
 verdict o = unless o tt
 
 pub verdict_ok : (o : Option DelayFault) → Ok tt ≡ verdict o → o ≡ None
-verdict_ok None h = refl
-verdict_ok (Some d) h = let z : ◌≡◌ {A = ℕ} 0 1 = cc in absurd (omega arith)
+verdict_ok o h = grind arith
 
 pub verdict_err : (o : Option DelayFault) (d : DelayFault) → Err d ≡ verdict o → o ≡ Some d
-verdict_err None d h = let z : ◌≡◌ {A = ℕ} 0 1 = cc in absurd (omega arith)
-verdict_err (Some e) d h = cc
+verdict_err o d h = grind arith
 
 -- the marks are those of some fields, and all fields have the first fault that is still to come
 abbrev pub Going : Outline → (all rest : List (Placed Entry)) → Named → Type 0

@@ -88,13 +88,12 @@ module _ {outline : Outline} (small : Small outline) where
         (cases_eq s u)
 
     part_there : (there early again : Bool) (at : ℕ) → part_fault there early again at ≡ None → there ≡ true
-    part_there true early again at h = refl
-    part_there false early again at h = let z : ◌≡◌ {A = ℕ} 0 1 = cc in absurd (omega arith)
+    part_there there early again at h = grind arith
 
     -- an entry without fault is marked
     pub noted : (at : ℕ) (e : Entry) → entry_fault outline (marks marked) at e ≡ None
         → Notes outline (marked_with marked e) (record { at = at; said = Ok e } ∷ before)
-    noted at (entry.Clock c) h = let z : ◌≡◌ {A = ℕ} 0 1 = cc in absurd (omega arith)
+    noted at (entry.Clock c) h = grind arith
     noted at (entry.Delay g p t) h = record {
       pins_long = length-set marked.pins (4 * g + p) true ∙ notes.pins_long;
       sources_long = notes.sources_long;
@@ -107,8 +106,7 @@ module _ {outline : Outline} (small : Small outline) where
     }
 
     part_same : (there early a b : Bool) (at : ℕ) → (there ≡ true → a ≡ b) → part_fault there early a at ≡ part_fault there early b at
-    part_same true early a b at h = ap (λ (x : Bool). part_fault true early x at) (h refl)
-    part_same false early a b at h = refl
+    part_same there early a b at h = grind arith
 
     -- the fault by the marks is the fault by the fields before
     pub same_fault : (at : ℕ) (e : Entry) → entry_fault outline (marks marked) at e ≡ entry_fault outline (named before) at e

@@ -10,7 +10,7 @@ use Rattle.fields.specs.Written.{written_entry}
 use Rattle.delays.specs.declared.faults.DelayFault.{DelayFault}
 use Rattle.delays.specs.Faults.{refusal_of}
 use Rattle.delays.specs.Outlines.{Outline}
-use Rattle.delays.specs.Tables.{table_of, pin_times, source_times, no_times_lem}
+use Rattle.delays.specs.Tables.{table_of, pin_times, source_times, no_times}
 
 abbrev board : Outline
 board = record { signals = 4; pins = λ s. cond (s == 2) 1 (cond (s == 3) 2 0); source = λ s. nat_lt s 2 }
@@ -23,10 +23,10 @@ clock = entry.Clock (record { period = 1000; setup = 50; hold = 20 })
 
 -- a delay and a start of no time, and ones whose early fall is above the late fall
 abbrev delay : ℕ → ℕ → Entry
-delay g p = entry.Delay g p no_times_lem
+delay g p = entry.Delay g p no_times
 
 abbrev start : ℕ → Entry
-start s = entry.Start s no_times_lem
+start s = entry.Start s no_times
 
 abbrev crossed : ℕ → ℕ → Entry
 crossed g p = entry.Delay g p (times 9 9 9 10)
@@ -53,6 +53,6 @@ wrong =
 pub record JudgedSo : Type 0 where
   pub accepted : table_of board table ≡ Ok (record { period = 1000; setup = 50; hold = 20 })
   pub named : pin_times table 3 1 ≡ times 150 140 90 85
-  pub unnamed : source_times table 0 ≡ no_times_lem
+  pub unnamed : source_times table 0 ≡ no_times
   pub refusals : map (λ f. refused (table_of board f)) wrong
       ≡ (11, 0) ∷ (11, 57) ∷ (11, 0) ∷ (11, 15) ∷ (11, 15) ∷ (11, 15) ∷ (12, 15) ∷ (12, 15) ∷ (12, 15) ∷ (13, 15) ∷ (13, 36) ∷ (14, 57) ∷ (14, 55) ∷ []

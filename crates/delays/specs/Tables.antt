@@ -80,17 +80,17 @@ table_of outline file = cond (nat_lt file_limit (length file)) (Err FileTooLong)
 abbrev pub naming : List (Placed Entry) → Part → List (Placed Entry)
 naming fs part = filter (λ f. names f part) fs
 
-abbrev pub no_times_lem : Times
-no_times_lem = record { late_rise = 0; late_fall = 0; early_rise = 0; early_fall = 0 }
+abbrev pub no_times : Times
+no_times = record { late_rise = 0; late_fall = 0; early_rise = 0; early_fall = 0 }
 
 abbrev pub times_in : Result Entry FieldFault → Times
-times_in (Ok (entry.Clock c)) = no_times_lem
+times_in (Ok (entry.Clock c)) = no_times
 times_in (Ok (entry.Delay g p t)) = t
 times_in (Ok (entry.Start s t)) = t
-times_in (Err d) = no_times_lem
+times_in (Err d) = no_times
 
 abbrev pub first_times : List (Placed Entry) → Times
-first_times [] = no_times_lem
+first_times [] = no_times
 first_times (f ∷ fs) = times_in f.said
 
 -- the times of the field that names a part, and four zeros where none does

@@ -1,10 +1,13 @@
 -- What is written is read back.
-use Rattle.std.proofs.Common.{◌≡◌, ℕ, ◌+◌, ◌≤◌, List, ◌++◌, length, Ok, Result, sym, ap, ◌∙◌, subst, arith, le-leb}
-use Rattle.std.proofs.lemmas.List.{take_at, length-append}
+use Rattle.std.proofs.Common.{◌≡◌, ℕ, ◌+◌, ◌<◌, ◌≤◌, List, [], ◌∷◌, ◌++◌, map, length, drop, Ok, Result, sym, refl, ap, ◌∙◌, subst, ap₂, arith, le-leb}
+use Rattle.std.specs.List.{flat_map}
+use Rattle.std.proofs.lemmas.List.{take_at, drop_at, length-append}
 use Rattle.std.proofs.lemmas.Bool.{cond-true}
 use Rattle.fields.specs.declared.faults.FieldFault.{FieldFault}
 use Rattle.fields.specs.Fields.{Content, size_of, field_at}
-use Rattle.fields.specs.Lists.{told, said_at}
+use Rattle.fields.specs.Laws.{ReadBack}
+use Rattle.fields.specs.Lists.{told, said_at, placed}
+use Rattle.fields.proofs.Order.{front}
 use Rattle.fields.specs.Forms.{Form}
 use Rattle.fields.specs.Written.{field_of}
 
@@ -38,3 +41,20 @@ back {says = says} form x more =
     let b = form.back x in
     let P : List ℕ → Type 0 = λ bytes. Back says bytes more x in
     subst P (sym b.is) (field_back says b.tag b.value more x b.says_it)
+
+-- and so is a whole file
+written_back : {A : Type 0} {says : Content → Result A FieldFault} {written : A → List ℕ} → Form says written → (at : ℕ) (xs : List A)
+    → map (λ f. f.said) (placed says 0 at (flat_map written xs)) ≡ map Ok xs
+written_back form at [] = refl
+written_back {says = says} {written = written} form at (x ∷ xs) =
+    let more = flat_map written xs in
+    let bytes = written x ++ more in
+    let b = back form x more in
+    let some : 0 < length bytes = omega (arith, b.size, length-append (written x) more) in
+    let behind : drop (3 + size_of bytes) bytes ≡ more = ap (λ (n : ℕ). drop n bytes) b.size ∙ drop_at (written x) more _ refl in
+    ap (map (λ f. f.said)) (front says bytes at some)
+    ∙ ap₂ ◌∷◌ (b.said at)
+    (ap (λ (rest : List ℕ). map (λ f. f.said) (placed says 0 (at + (3 + size_of bytes)) rest)) behind ∙ written_back form (at + (3 + size_of bytes)) xs)
+
+pub read_back : {A : Type 0} {says : Content → Result A FieldFault} {written : A → List ℕ} → Form says written → ReadBack says written
+read_back form xs = written_back form 0 xs

@@ -1,6 +1,5 @@
 pub mod Back
 pub mod Cutting
-pub mod Numbers
 pub mod Opening
 pub mod Order
 pub mod Reading

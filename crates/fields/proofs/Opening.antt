@@ -1,5 +1,5 @@
 -- Fields that are opened at a place.
-use Rattle.std.proofs.Common.{◌≡◌, ℕ, ◌+◌, ◌≤◌, leb, List, length, get_or, take, drop, Ok, Err, Result, sym, ap, ◌∙◌, ⊎_elim, arith, leb-true}
+use Rattle.std.proofs.Common.{◌≡◌, ℕ, ◌+◌, ◌≤◌, leb, List, length, get_or, take, drop, Ok, Err, Result, ap, ◌∙◌, ⊎_elim, arith, leb-true}
 use Rattle.std.proofs.lemmas.List.{length-take-le, length-drop}
 use Rattle.std.proofs.lemmas.Bool.{cond-true, cond-false, cases_Bool}
 use Rattle.fields.specs.declared.faults.FieldFault.{FieldFault}
@@ -28,7 +28,7 @@ whole bytes at f e =
     })
     (λ n.
     let shut : field_at bytes at ≡ Err (CutOff at) = cond-false _ _ _ n in
-    let z : ◌≡◌ {A = ℕ} 0 1 = cc in absurd (omega arith))
+    grind arith)
     (cases_Bool (leb (3 + size_of bytes) (length bytes)))
 
 -- a field that does not open is longer than the bytes
@@ -38,11 +38,7 @@ cut bytes at d e = grind arith
 -- an answer with a next place, taken apart
 pub ok_next : {A : Type 0} (r : Result A FieldFault) (n next : ℕ) (x : A) → Ok (x, next) ≡ with_next n r
     → (r ≡ Ok x) × (next ≡ n)
-ok_next {A} (Ok y) n next x h =
-    let q : ◌≡◌ {A = A × ℕ} (x, next) (y, n) = cc in
-    (ap (λ (p : A × ℕ). Ok p.0) (sym q), ap (λ (p : A × ℕ). p.1) q)
-ok_next (Err d) n next x h = let z : ◌≡◌ {A = ℕ} 0 1 = cc in absurd (omega arith)
+ok_next r n next x h = grind arith
 
 pub err_next : {A : Type 0} (r : Result A FieldFault) (n : ℕ) (d : FieldFault) → Err d ≡ with_next n r → r ≡ Err d
-err_next (Ok y) n d h = let z : ◌≡◌ {A = ℕ} 0 1 = cc in absurd (omega arith)
-err_next (Err e) n d h = cc
+err_next r n d h = grind arith

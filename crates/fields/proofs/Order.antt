@@ -45,7 +45,7 @@ module _ {A : Type 0} (says : Content → Result A FieldFault) where
       skips k (at + 1) xs ∙ ap (λ (n : ℕ). placed says 0 n (drop k xs)) e
 
   -- the field at the front, and those behind it
-  front : (bytes : List ℕ) (at : ℕ) → 0 < length bytes
+  pub front : (bytes : List ℕ) (at : ℕ) → 0 < length bytes
       → placed says 0 at bytes
       ≡ record { at = at; said = said_at says bytes at } ∷ placed says 0 (at + (3 + size_of bytes)) (drop (3 + size_of bytes) bytes)
   front [] at h = absurd (omega arith)
@@ -69,8 +69,8 @@ module _ {A : Type 0} (says : Content → Result A FieldFault) where
   fields_none file at h = ap (placed says 0 at) (drop_all at file h)
 
   never : (before after : List (Placed A)) (f : Placed A) → ◌≡◌ {A = List (Placed A)} [] (before ++ (f ∷ after)) → ⊥
-  never [] after f h = let z : ◌≡◌ {A = ℕ} 0 1 = cc in omega arith
-  never (b ∷ before) after f h = let z : ◌≡◌ {A = ℕ} 0 1 = cc in omega arith
+  never [] after f h = grind arith
+  never (b ∷ before) after f h = grind arith
 
   -- the bytes up to a field's tag, of fields in any bytes
   prefix : (skip at : ℕ) (xs : List ℕ) (before after : List (Placed A)) (f : Placed A)

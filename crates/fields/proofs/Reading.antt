@@ -15,7 +15,7 @@ use Rattle.fields.proofs.Refused.{Refused, said_refused}
 told_ok : {A : Type 0} (says : Content → Result A FieldFault) (r : Result Content FieldFault) (x : A)
     → told says r ≡ Ok x → (f : Content) × (Ok f ≡ r)
 told_ok says (Ok f) x h = (f, refl)
-told_ok says (Err d) x h = let z : ◌≡◌ {A = ℕ} 0 1 = cc in absurd (omega arith)
+told_ok says (Err d) x h = grind arith
 
 module _ {A : Type 0} (says : Content → Result A FieldFault) (file : List ℕ) (at : ℕ) where
   -- a field that says something ends in the file

@@ -27,16 +27,17 @@ impl Says for Edit {
     ghost written = { written_edit };
 
     fn decode(field: Field<'_>) -> Result<Edit, FieldFault> {
-        let at = field.at;
+        let wrong = FieldFault::WrongLength { at: field.at };
+        // Tags stay bytes: an enum with TryFrom would name each twice more before this match.
         match (field.tag, field.value) {
-            (0x11, [gate, pin, times @ ..]) if times.len() == 16 => Ok(Edit::SetDelay {
+            (0x11, [gate, pin, times @ ..]) => Ok(Edit::SetDelay {
                 gate: u16::from(*gate),
                 pin: *pin,
-                times: read_times(times),
+                times: read_times(times).ok_or(wrong)?,
             }),
-            (0x12, [source, times @ ..]) if times.len() == 16 => Ok(Edit::SetStart {
+            (0x12, [source, times @ ..]) => Ok(Edit::SetStart {
                 source: u16::from(*source),
-                times: read_times(times),
+                times: read_times(times).ok_or(wrong)?,
             }),
             (0x13, [gate, pin, feeder]) => Ok(Edit::Rewire {
                 gate: u16::from(*gate),
@@ -47,8 +48,8 @@ impl Says for Edit {
                 gate: u16::from(*gate),
                 pin: *pin,
             }),
-            (0x11..=0x14, _) => Err(FieldFault::WrongLength { at }),
-            (tag, _) => Err(stray_tag(tag, at)),
+            (0x11..=0x14, _) => Err(wrong),
+            (tag, _) => Err(stray_tag(tag, field.at)),
         }
     }
 

@@ -29,12 +29,10 @@ pub fn open_field(rest: &[u8], at: usize) -> Result<Field<'_>, FieldFault>
         return Err(FieldFault::CutOff { at });
     };
     let length = usize::from(u16::from_be_bytes([*high, *low]));
-    if rest.len() < length {
-        return Err(FieldFault::CutOff { at });
-    }
+    let value = rest.get(..length).ok_or(FieldFault::CutOff { at })?;
     Ok(Field {
         tag: *tag,
-        value: &rest[0..length],
+        value,
         at,
     })
 }
@@ -43,10 +41,8 @@ pub fn open_field(rest: &[u8], at: usize) -> Result<Field<'_>, FieldFault>
 pub fn field_at(file: &[u8], at: usize) -> Result<(Field<'_>, usize), FieldFault>
     ensures { seen_next result ≡ field_from file.now at }
 {
-    if at > file.len() {
-        return Err(FieldFault::CutOff { at });
-    }
-    let field = open_field(&file[at..], at)?;
+    let rest = file.get(at..).ok_or(FieldFault::CutOff { at })?;
+    let field = open_field(rest, at)?;
     Ok((field, at + 3 + field.value.len()))
 }
 

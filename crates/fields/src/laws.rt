@@ -1,8 +1,14 @@
-// What holds of the fields of every script: each function's contract is a theorem.
-ghost use Rattle.fields.specs.Laws.{CutBetween};
-ghost use Rattle.fields.specs.Says.{edit_of};
+// What holds of the fields of every file: each function's contract is a theorem.
+ghost use Rattle.fields.specs.Laws.{CutBetween, ReadBack};
+
+use crate::says::Says;
 
 /// The fields before a field are those of the bytes before its tag.
-pub fn files_cut_between_fields()
-    ensures { CutBetween edit_of }
+pub fn files_cut_between_fields<T: Says>()
+    ensures { CutBetween T.says }
+{}
+
+/// A file that is written value by value says these values, in order.
+pub fn written_files_are_read_back<T: Says>()
+    ensures { ReadBack T.says T.written }
 {}

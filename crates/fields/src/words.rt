@@ -1,31 +1,34 @@
-ghost use Rattle.std.specs.Prelude.{◌≡◌, ◌+◌, ◌≤◌, length};
-ghost use Rattle.fields.specs.Fields.{number_at};
-ghost use Rattle.fields.specs.Says.{times_of};
+ghost use Rattle.std.specs.Prelude.{◌≡◌, ◌==◌, Some, None, length, if◌then◌else◌};
+ghost use Rattle.fields.specs.Says.{clock_of, times_of};
 
+use crate::entry::Clock;
 use weights::times::Times;
 
-/// The number in the four bytes from `place` on.
-pub(crate) fn read_word(bytes: &[u8], place: usize) -> u32
-    requires { place + 4 ≤ length bytes.now }
-    ensures { result ≡ number_at 4 place bytes.now }
+/// The clock in twelve bytes, four for each number.
+pub(crate) fn read_clock(bytes: &[u8]) -> Option<Clock>
+    ensures { result ≡ (if length bytes.now == 12 then Some (clock_of bytes.now) else None) }
 {
-    u32::from_be_bytes([
-        bytes[place],
-        bytes[place + 1],
-        bytes[place + 2],
-        bytes[place + 3],
-    ])
+    let ([period, setup, hold], []) = bytes.as_chunks::<4>() else {
+        return None;
+    };
+    Some(Clock {
+        period: u32::from_be_bytes(*period),
+        setup: u32::from_be_bytes(*setup),
+        hold: u32::from_be_bytes(*hold),
+    })
 }
 
-/// The four times in the first sixteen bytes.
-pub(crate) fn read_times(bytes: &[u8]) -> Times
-    requires { 16 ≤ length bytes.now }
-    ensures { result ≡ times_of bytes.now }
+/// The four times in sixteen bytes, four for each.
+pub(crate) fn read_times(bytes: &[u8]) -> Option<Times>
+    ensures { result ≡ (if length bytes.now == 16 then Some (times_of bytes.now) else None) }
 {
-    Times {
-        late_rise: read_word(bytes, 0),
-        late_fall: read_word(bytes, 4),
-        early_rise: read_word(bytes, 8),
-        early_fall: read_word(bytes, 12),
-    }
+    let ([late_rise, late_fall, early_rise, early_fall], []) = bytes.as_chunks::<4>() else {
+        return None;
+    };
+    Some(Times {
+        late_rise: u32::from_be_bytes(*late_rise),
+        late_fall: u32::from_be_bytes(*late_fall),
+        early_rise: u32::from_be_bytes(*early_rise),
+        early_fall: u32::from_be_bytes(*early_fall),
+    })
 }

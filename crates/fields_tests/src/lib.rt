@@ -9,7 +9,7 @@ mod tests {
     use fields::entry::{Clock, Entry};
     use fields::faults::FieldFault;
     use fields::field::too_long;
-    use fields::read::read_field;
+    use fields::read::{Fields, Placed, read_field};
     use weights::times::Times;
 
     // 0x12345678, 7, 256, 4294967290
@@ -120,6 +120,29 @@ mod tests {
             read_field::<Edit>(&file, 5),
             Err(FieldFault::CutOff { at: 5 })
         );
+    }
+
+    // A wrong length does not stop the fields, and one that is cut off is the last.
+    #[test]
+    fn one_after_another(rt: HostRuntime) {
+        let file = [0x14, 0, 2, 5, 0, 0x12, 0, 1, 9, 0x14, 0, 2, 7];
+        let mut fields = Fields::<Edit>::new(&file);
+        let cut = Placed {
+            at: 0,
+            said: Ok(Edit::Cut { gate: 5, pin: 0 }),
+        };
+        let wrong = Placed {
+            at: 5,
+            said: Err(FieldFault::WrongLength { at: 5 }),
+        };
+        let last = Placed {
+            at: 9,
+            said: Err(FieldFault::CutOff { at: 9 }),
+        };
+        assert_eq!(rt; fields.next(), Some(cut));
+        assert_eq!(rt; fields.next(), Some(wrong));
+        assert_eq!(rt; fields.next(), Some(last));
+        assert_eq!(rt; fields.next(), None);
     }
 
     #[test]

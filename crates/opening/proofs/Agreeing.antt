@@ -14,7 +14,7 @@ use Rattle.settling.specs.Tables.{cells, wire_of, web_on, WebFits}
 use Rattle.settling.proofs.Shapes.{ranks}
 use Rattle.delays.specs.Tables.{pin_times}
 use Rattle.delays.proofs.Marking.{small}
-use Rattle.opening.specs.Cells.{weight_at_lem, starts_by, weights_by}
+use Rattle.opening.specs.Cells.{weight_at, starts_by, weights_by}
 use Rattle.opening.specs.Forwards.{tap_of, forwards, all_counted, forwards_sound}
 use Rattle.opening.specs.Opens.{file_web, opened_view}
 use Rattle.opening.proofs.Tabling.{table_cell, table_is}
@@ -37,12 +37,12 @@ fits net starts weights s w = record {
 
 module _ {G : Type 0} (r : Ops G) (delays : ℕ → ℕ → G) (net : Network) (file : List ℕ) (starts weights : List (EdgeMatrix G)) where
   pub weight_cell : (s k : ℕ) → s < size net → k < 4
-      → get_or (weights_by r delays net file weights) (4 * s + k) (edge_ops r).zero ≡ weight_at_lem r delays net s k (pin_times file s k)
+      → get_or (weights_by r delays net file weights) (4 * s + k) (edge_ops r).zero ≡ weight_at r delays net s k (pin_times file s k)
   weight_cell s k h low =
       let es : (4 * s + k) / 4 ≡ s = omega arith in
       let ek : (4 * s + k) % 4 ≡ k = omega arith in
       table_cell _ (4 * size net) weights (4 * s + k) (edge_ops r).zero (omega arith)
-      ∙ ap₂ (λ (x y : ℕ). weight_at_lem r delays net x y (pin_times file x y)) es ek
+      ∙ ap₂ (λ (x y : ℕ). weight_at r delays net x y (pin_times file x y)) es ek
 
   agree : Agree (web_on (edge_ops r) (forwards net) (starts_by r delays net file starts) (weights_by r delays net file weights)) (file_web r delays net file)
   agree = record {

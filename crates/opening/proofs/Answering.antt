@@ -1,5 +1,5 @@
 -- Boards that have room, and what opening them answers.
-use Rattle.std.proofs.Common.{◌≡◌, ℕ, ◌*◌, ◌≤◌, Bool, true, false, cond, ◌||◌, ltb, List, length, None, Ok, Err, Result, refl, ap, ◌∙◌, arith}
+use Rattle.std.proofs.Common.{◌≡◌, ℕ, ◌*◌, ◌≤◌, Bool, false, cond, ◌||◌, ltb, List, length, None, Ok, Err, Result, ap, ◌∙◌, arith}
 use Rattle.std.specs.Result.{result_and, result_map_both}
 use Rattle.std.proofs.lemmas.Bool.{ltb-false, or_parts}
 use Rattle.fault.specs.declared.room_fault.RoomFault.{RoomFault}
@@ -9,7 +9,7 @@ use Rattle.fields.specs.declared.entry.Clock.{Clock}
 use Rattle.delays.specs.Faults.{no_room}
 use Rattle.delays.specs.Outlines.{outline_of}
 use Rattle.delays.specs.Tables.{table_of}
-use Rattle.opening.specs.Boards.{View, is_short_lem, room_in}
+use Rattle.opening.specs.Boards.{View, is_short, room_in}
 use Rattle.opening.specs.Opens.{counted, answer_of}
 
 -- the tables of a board that is not short
@@ -18,7 +18,7 @@ pub record Long {V : Type 0} (view : View V) : Type 0 where
   pub weights : 4 * size view.network ≤ length view.weights
   pub values : size view.network ≤ length view.values
 
-pub long : {V : Type 0} (view : View V) → is_short_lem view ≡ false → Long view
+pub long : {V : Type 0} (view : View V) → is_short view ≡ false → Long view
 long view h =
     let n = size view.network in
     let first = or_parts (ltb (length view.starts) n) (ltb (length view.weights) (4 * n) || ltb (length view.values) n) h in
@@ -33,12 +33,11 @@ abbrev room : (short low : Bool) → Result (Unit {0}) RoomFault
 room short low = cond short (Err TooShort) (cond low (Err LowLimit) (Ok tt))
 
 room_ok : (short low : Bool) → Ok tt ≡ room short low → short ≡ false
-room_ok false low h = refl
-room_ok true low h = let z : ◌≡◌ {A = ℕ} 0 1 = cc in absurd (omega arith)
+room_ok short low h = grind arith
 
 -- a board that has room is not short
 pub roomy : {V : Type 0} (view : View V) (limit : ℕ) → Ok tt ≡ room_in view None limit → Long view
-roomy view limit h = long view (room_ok (is_short_lem view) (ltb limit (size view.network)) h)
+roomy view limit h = long view (room_ok (is_short view) (ltb limit (size view.network)) h)
 
 -- the answer of a board that has room
 pub answered : {V : Type 0} (view : View V) (limit : ℕ) (file : List ℕ) → Ok tt ≡ room_in view None limit

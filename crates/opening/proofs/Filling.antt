@@ -15,9 +15,9 @@ use Rattle.fields.specs.declared.entry.Entry.TheVariants as entry
 use Rattle.fields.specs.declared.faults.FieldFault.{FieldFault}
 use Rattle.delays.specs.Laws.{Fits, WellNamed}
 use Rattle.delays.specs.Outlines.{Part, Pin, Source, outline_of}
-use Rattle.delays.specs.Tables.{names_in, names, naming, no_times_lem, times_in, first_times}
+use Rattle.delays.specs.Tables.{names_in, names, naming, no_times, times_in, first_times}
 use Rattle.delays.proofs.Marking.{small}
-use Rattle.opening.specs.Cells.{table, start_at, weight_at_lem, weight_in}
+use Rattle.opening.specs.Cells.{table, start_at, weight_at, weight_in}
 use Rattle.opening.specs.Fills.{starts_with, weights_with, after_all}
 use Rattle.opening.proofs.Tabling.{table_cell, table_past, table_long, table_is}
 
@@ -53,13 +53,13 @@ module _ (net : Network) {V : Type 0} (writes : Result Entry FieldFault → List
           ⊎_elim
           (λ (named : names f part ≡ true).
           let some : naming (f ∷ fs) part ≡ f ∷ naming fs part = cond-true _ _ _ named in
-          let z : ◌≡◌ {A = ℕ} 0 1 = cc in absurd (omega arith))
+          grind arith)
           (λ (off : names f part ≡ false).
           after_same (writes f.said cells) fs fit.1 (sym (cond-false _ _ _ off) ∙ none) ∙ holds.other f.said cells d fit.0 off)
           (cases_Bool (names f part))
 
       after_cell : (cells : List V) (fs : List (Placed Entry)) → AllFit fs → n ≤ length cells → length (naming fs part) ≤ 1
-          → get_or cells cell d ≡ value no_times_lem → get_or (after_all writes cells fs) cell d ≡ value (first_times (naming fs part))
+          → get_or cells cell d ≡ value no_times → get_or (after_all writes cells fs) cell d ≡ value (first_times (naming fs part))
       after_cell cells [] fit enough once was = was
       after_cell cells (f ∷ fs) fit enough once was =
           ⊎_elim
@@ -79,10 +79,10 @@ module _ (net : Network) {V : Type 0} (writes : Result Entry FieldFault → List
     -- a table of the values of no times, after all the fields of a table that is well named
     pub filled : (part : ℕ → Part) (value : ℕ → Times → V) → ((i : ℕ) → i < n → Holds n (part i) i (value i))
         → (d : V) (fs : List (Placed Entry)) → WellNamed (outline_of net) fs → (old cells after : List V) → n ≤ length old
-        → cells ≡ table (λ i. value i no_times_lem) n old → after ≡ after_all writes cells fs
+        → cells ≡ table (λ i. value i no_times) n old → after ≡ after_all writes cells fs
         → after ≡ table (λ i. value i (first_times (naming fs (part i)))) n old
     filled part value holds d fs well old cells after fits begun is =
-        let none : ℕ → V = λ i. value i no_times_lem in
+        let none : ℕ → V = λ i. value i no_times in
         let long : length cells ≡ length old = ap length begun ∙ table_long none n old fits in
         let enough : n ≤ length cells = omega arith in
         table_is (λ i. value i (first_times (naming fs (part i)))) n old after d
@@ -93,14 +93,14 @@ module _ (net : Network) {V : Type 0} (writes : Result Entry FieldFault → List
         (ap (drop n) is ∙ after_past cells fs well.fit ∙ ap (drop n) begun ∙ table_past none n old)
 
 module _ {G : Type 0} (r : Ops G) (delays : ℕ → ℕ → G) (net : Network) where
-  source_within : (s : ℕ) → Fits (outline_of net) (Ok (entry.Start s no_times_lem)) → s < size net
+  source_within : (s : ℕ) → Fits (outline_of net) (Ok (entry.Start s no_times)) → s < size net
   source_within s there = ltb-true s (size net) (and_parts (ltb s (size net)) (is_source_of net s) there).0
 
   pub record There (g p : ℕ) : Type 0 where
     pub signal : g < size net
     pub pin : p < 4
 
-  pin_within : (g p : ℕ) → Fits (outline_of net) (Ok (entry.Delay g p no_times_lem)) → There g p
+  pin_within : (g p : ℕ) → Fits (outline_of net) (Ok (entry.Delay g p no_times)) → There g p
   pin_within g p there =
       let both = and_parts (ltb g (size net)) (ltb p (fanin net g)) there in
       record { signal = ltb-true g (size net) both.0; pin = omega (arith, ltb-true p (fanin net g) both.1, (small net).pins g) }
@@ -136,8 +136,8 @@ module _ {G : Type 0} (r : Ops G) (delays : ℕ → ℕ → G) (net : Network) w
   module _ (s : ℕ) where
     start_here : (said : Result Entry FieldFault) (cells : List (EdgeMatrix G)) (d : EdgeMatrix G) → Fits (outline_of net) said → size net ≤ length cells
         → names_in said (Source s) ≡ true → get_or (starts_with r delays net said cells) s d ≡ start_at r delays net s (times_in said)
-    start_here (Ok (entry.Clock c)) cells d fit enough named = let z : ◌≡◌ {A = ℕ} 0 1 = cc in absurd (omega arith)
-    start_here (Ok (entry.Delay g p t)) cells d fit enough named = let z : ◌≡◌ {A = ℕ} 0 1 = cc in absurd (omega arith)
+    start_here (Ok (entry.Clock c)) cells d fit enough named = grind arith
+    start_here (Ok (entry.Delay g p t)) cells d fit enough named = grind arith
     start_here (Ok (entry.Start u t)) cells d fit enough named =
         let same = eqb-true s u named in
         let lt : u < length cells = omega (arith, source_within u fit) in
@@ -156,17 +156,17 @@ module _ {G : Type 0} (r : Ops G) (delays : ℕ → ℕ → G) (net : Network) w
 
   module _ (g p : ℕ) (low : p < 4) where
     weight_here : (said : Result Entry FieldFault) (cells : List (EdgeMatrix G)) (d : EdgeMatrix G) → Fits (outline_of net) said → 4 * size net ≤ length cells
-        → names_in said (Pin g p) ≡ true → get_or (weights_with r delays net said cells) (4 * g + p) d ≡ weight_at_lem r delays net g p (times_in said)
-    weight_here (Ok (entry.Clock c)) cells d fit enough named = let z : ◌≡◌ {A = ℕ} 0 1 = cc in absurd (omega arith)
-    weight_here (Ok (entry.Start s t)) cells d fit enough named = let z : ◌≡◌ {A = ℕ} 0 1 = cc in absurd (omega arith)
+        → names_in said (Pin g p) ≡ true → get_or (weights_with r delays net said cells) (4 * g + p) d ≡ weight_at r delays net g p (times_in said)
+    weight_here (Ok (entry.Clock c)) cells d fit enough named = grind arith
+    weight_here (Ok (entry.Start s t)) cells d fit enough named = grind arith
     weight_here (Ok (entry.Delay h q t)) cells d fit enough named =
         let both = and_parts (eqb g h) (eqb p q) named in
         let eg = eqb-true g h both.0 in
         let ep = eqb-true p q both.1 in
         let w = pin_within h q fit in
         let lt : 4 * h + q < length cells = omega (arith, w.signal, w.pin) in
-        ap₂ (λ (x y : ℕ). get_or (set cells (4 * h + q) (weight_at_lem r delays net h q t)) (4 * x + y) d) eg ep
-        ∙ get_or-set_same cells (4 * h + q) _ d lt ∙ ap₂ (λ (x y : ℕ). weight_at_lem r delays net x y t) (sym eg) (sym ep)
+        ap₂ (λ (x y : ℕ). get_or (set cells (4 * h + q) (weight_at r delays net h q t)) (4 * x + y) d) eg ep
+        ∙ get_or-set_same cells (4 * h + q) _ d lt ∙ ap₂ (λ (x y : ℕ). weight_at r delays net x y t) (sym eg) (sym ep)
     weight_here (Err e) cells d fit enough named = absurd fit
 
     weight_other : (said : Result Entry FieldFault) (cells : List (EdgeMatrix G)) (d : EdgeMatrix G) → Fits (outline_of net) said
@@ -193,14 +193,14 @@ module _ {G : Type 0} (r : Ops G) (delays : ℕ → ℕ → G) (net : Network) w
 
   -- the starts and the weights of a table that is well named
   module _ (d : EdgeMatrix G) (fs : List (Placed Entry)) (well : WellNamed (outline_of net) fs) (old cells after : List (EdgeMatrix G)) where
-    pub starts_filled : size net ≤ length old → cells ≡ table (λ s. start_at r delays net s no_times_lem) (size net) old
+    pub starts_filled : size net ≤ length old → cells ≡ table (λ s. start_at r delays net s no_times) (size net) old
         → after ≡ after_all (starts_with r delays net) cells fs
         → after ≡ table (λ s. start_at r delays net s (first_times (naming fs (Source s)))) (size net) old
     starts_filled =
         filled net (starts_with r delays net) (record { long = starts_long; past = starts_past }) Source (start_at r delays net)
         (λ s h. record { here = start_here s; other = start_other s }) d fs well old cells after
 
-    pub weights_filled : 4 * size net ≤ length old → cells ≡ table (λ i. weight_in r delays net i no_times_lem) (4 * size net) old
+    pub weights_filled : 4 * size net ≤ length old → cells ≡ table (λ i. weight_in r delays net i no_times) (4 * size net) old
         → after ≡ after_all (weights_with r delays net) cells fs
         → after ≡ table (λ i. weight_in r delays net i (first_times (naming fs (pin_in i)))) (4 * size net) old
     weights_filled =

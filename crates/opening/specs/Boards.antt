@@ -22,8 +22,8 @@ abbrev pub view_at : {V : Type 0} → MutBor Network × (MutBor (List V) × (Mut
 view_at (network, (starts, (weights, (values, end)))) = record { network = network.now; starts = starts.now; weights = weights.now; values = values.now }
 
 -- a table has too few cells
-abbrev pub is_short_lem : {V : Type 0} → View V → Bool
-is_short_lem view =
+abbrev pub is_short : {V : Type 0} → View V → Bool
+is_short view =
     nat_lt (length view.starts) (size view.network)
     || (nat_lt (length view.weights) (4 * size view.network) || nat_lt (length view.values) (size view.network))
 
@@ -35,5 +35,5 @@ short_strip (Some cells) n = nat_lt cells n
 -- what is too short is judged first, then a low limit
 abbrev pub room_in : {V : Type 0} → View V → (strip : Option ℕ) (limit : ℕ) → Result (Unit {0}) RoomFault
 room_in view strip limit =
-    cond (short_strip strip (size view.network) || is_short_lem view) (Err TooShort)
+    cond (short_strip strip (size view.network) || is_short view) (Err TooShort)
     (cond (nat_lt limit (size view.network)) (Err LowLimit) (Ok tt))

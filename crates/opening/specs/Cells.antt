@@ -20,19 +20,19 @@ table f n old = map f (range_with_len 0 n) ++ drop n old
 
 module _ {G : Type 0} (r : Ops G) (delays : ℕ → ℕ → G) where
   -- the weight of a driver's pin with these times: zero where it has no such pin
-  abbrev pub driver_weight_lem : Driver → ℕ → Times → EdgeMatrix G
-  driver_weight_lem Undriven k t = (edge_ops r).zero
-  driver_weight_lem Input k t = (edge_ops r).zero
-  driver_weight_lem (Latched l) k t = (edge_ops r).zero
-  driver_weight_lem (Gated g) k t = cond (nat_lt k g.pin_count) (weight_of r delays (raises g k) (lowers g k) t) (edge_ops r).zero
+  abbrev pub driver_weight : Driver → ℕ → Times → EdgeMatrix G
+  driver_weight Undriven k t = (edge_ops r).zero
+  driver_weight Input k t = (edge_ops r).zero
+  driver_weight (Latched l) k t = (edge_ops r).zero
+  driver_weight (Gated g) k t = cond (nat_lt k g.pin_count) (weight_of r delays (raises g k) (lowers g k) t) (edge_ops r).zero
 
   module _ (net : Network) where
-    abbrev pub weight_at_lem : (s k : ℕ) → Times → EdgeMatrix G
-    weight_at_lem s k t = driver_weight_lem (driver (signals net) s) k t
+    abbrev pub weight_at : (s k : ℕ) → Times → EdgeMatrix G
+    weight_at s k t = driver_weight (driver (signals net) s) k t
 
     -- cell 4 s + k is that of pin k of the signal s
     abbrev pub weight_in : ℕ → Times → EdgeMatrix G
-    weight_in i t = weight_at_lem (i / 4) (i % 4) t
+    weight_in i t = weight_at (i / 4) (i % 4) t
 
     -- the start of a signal with these times: zero where it is no source
     abbrev pub start_at : ℕ → Times → EdgeMatrix G

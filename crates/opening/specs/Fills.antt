@@ -7,7 +7,7 @@ use Rattle.fields.specs.declared.read.Placed.{Placed}
 use Rattle.fields.specs.declared.entry.Entry.{Entry}
 use Rattle.fields.specs.declared.entry.Entry.TheVariants as entry
 use Rattle.fields.specs.declared.faults.FieldFault.{FieldFault}
-use Rattle.opening.specs.Cells.{start_at, weight_at_lem}
+use Rattle.opening.specs.Cells.{start_at, weight_at}
 
 module _ {G : Type 0} (r : Ops G) (delays : ℕ → ℕ → G) (net : Network) where
   -- the starts with a field's start in its cell
@@ -20,7 +20,7 @@ module _ {G : Type 0} (r : Ops G) (delays : ℕ → ℕ → G) (net : Network) w
   -- the weights with a field's weight in its cell
   abbrev pub weights_with : Result Entry FieldFault → List (EdgeMatrix G) → List (EdgeMatrix G)
   weights_with (Ok (entry.Clock c)) cells = cells
-  weights_with (Ok (entry.Delay g p t)) cells = slice_set cells (4 * g + p) (weight_at_lem r delays net g p t)
+  weights_with (Ok (entry.Delay g p t)) cells = slice_set cells (4 * g + p) (weight_at r delays net g p t)
   weights_with (Ok (entry.Start s t)) cells = cells
   weights_with (Err d) cells = cells
 

@@ -9,8 +9,8 @@ use Rattle.network.specs.Net.{size}
 use Rattle.network.specs.declared.network.Network.{Network}
 use Rattle.settling.specs.Tables.{cells}
 use Rattle.delays.specs.Tables.{pin_times, source_times}
-use Rattle.opening.specs.Boards.{View, is_short_lem}
-use Rattle.opening.specs.Cells.{start_at, weight_at_lem}
+use Rattle.opening.specs.Boards.{View, is_short}
+use Rattle.opening.specs.Cells.{start_at, weight_at}
 use Rattle.opening.specs.Opens.{file_web, opened_view}
 
 -- the table has the same length and the same cells from n on
@@ -26,7 +26,7 @@ module _ {G : Type 0} (r : Ops G) (delays : ℕ → ℕ → G) (file : List ℕ)
         → cells (edge_ops r) after.starts s ≡ start_at r delays before.network s (source_times file s)
     -- a pin has the weight of its sense and its times, and an absent pin zero
     pub weights : (s k : ℕ) → s < size before.network → k < 4
-        → cells (edge_ops r) after.weights (4 * s + k) ≡ weight_at_lem r delays before.network s k (pin_times file s k)
+        → cells (edge_ops r) after.weights (4 * s + k) ≡ weight_at r delays before.network s k (pin_times file s k)
     pub values : AreSums (edge_ops r) (file_web r delays before.network file) (cells (edge_ops r) after.values)
     pub starts_past : SamePast (size before.network) before.starts after.starts
     pub weights_past : SamePast (4 * size before.network) before.weights after.weights
@@ -34,7 +34,7 @@ module _ {G : Type 0} (r : Ops G) (delays : ℕ → ℕ → G) (file : List ℕ)
 
 -- so it is with every board whose tables are long enough
 abbrev pub OpenedHolds : Type 0 → Type 0
-OpenedHolds G = (r : Ops G) (delays : ℕ → ℕ → G) (file : List ℕ) (view : View (EdgeMatrix G)) → is_short_lem view ≡ false
+OpenedHolds G = (r : Ops G) (delays : ℕ → ℕ → G) (file : List ℕ) (view : View (EdgeMatrix G)) → is_short view ≡ false
     → Holds r delays file view (opened_view r delays file view)
 
 abbrev pub FileWebsRank : Type 0 → Type 0

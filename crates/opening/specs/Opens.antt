@@ -15,7 +15,7 @@ use Rattle.delays.specs.Outlines.{outline_of}
 use Rattle.delays.specs.Tables.{table_of, pin_times, source_times}
 use Rattle.delays.specs.declared.faults.DelayFault.{DelayFault}
 use Rattle.opening.specs.Boards.{View, room_in}
-use Rattle.opening.specs.Cells.{table, start_at, weight_at_lem, starts_by, weights_by}
+use Rattle.opening.specs.Cells.{table, start_at, weight_at, starts_by, weights_by}
 use Rattle.opening.specs.declared.open.Opened.{Opened}
 
 -- a clock, with the number of signals
@@ -37,7 +37,7 @@ module _ {G : Type 0} (r : Ops G) (delays : ℕ → ℕ → G) where
   file_web net file = record {
     size = size net;
     start = λ s. start_at r delays net s (source_times file s);
-    into = λ s. map (λ k. record { from = from net s k; weight = weight_at_lem r delays net s k (pin_times file s k) }) (range_with_len 0 (fanin net s));
+    into = λ s. map (λ k. record { from = from net s k; weight = weight_at r delays net s k (pin_times file s k) }) (range_with_len 0 (fanin net s));
   }
 
   -- the opened board: starts and weights by the delay table, each value its path sum, and the cells past the end as they were

@@ -1,5 +1,5 @@
 ghost use Rattle.std.specs.Prelude.{◌≡◌};
-ghost use Rattle.opening.specs.Boards.{view_of, is_short_lem, room_in};
+ghost use Rattle.opening.specs.Boards.{view_of, is_short, room_in};
 
 use fault::room_fault::RoomFault;
 use network::network::Network;
@@ -36,7 +36,7 @@ pub struct Board<'a, V> {
 impl<V> Board<'_, V> {
     /// Whether a table has too few cells for the network.
     pub fn is_short(&self) -> bool
-        ensures { result ≡ is_short_lem (view_of self.now) }
+        ensures { result ≡ is_short (view_of self.now) }
     {
         let signals = self.network.size();
         self.starts.len() < signals

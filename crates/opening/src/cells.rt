@@ -1,7 +1,6 @@
 // What stands in a cell for a signal or a pin.
 ghost use Rattle.std.specs.Prelude.{◌≡◌, slice_set};
-ghost use Rattle.delays.specs.Tables.{no_times_lem};
-ghost use Rattle.opening.specs.Cells.{start_at, driver_weight_lem, weight_at_lem, weight_in};
+ghost use Rattle.opening.specs.Cells.{start_at, driver_weight, weight_at};
 
 use gauge::gauges::Gauge;
 use gauge::matrix::EdgeMatrix;
@@ -33,7 +32,7 @@ pub fn start_at<G: Gauge>(network: &Network, signal: usize, times: Times) -> Edg
 
 // The weight of a driver's pin with these times; zero where it has no such pin.
 fn driver_weight<G: Gauge>(driver: Driver, pin: usize, times: Times) -> EdgeMatrix<G>
-    ensures { result ≡ driver_weight_lem G.Semiring.ops G.Gauge.delays driver pin times }
+    ensures { result ≡ driver_weight G.Semiring.ops G.Gauge.delays driver pin times }
 {
     match driver {
         Driver::Gated(gate) if pin < usize::from(gate.pin_count) => {
@@ -52,22 +51,8 @@ pub fn weight_at<G: Gauge>(
     pin: usize,
     times: Times,
 ) -> EdgeMatrix<G>
-    ensures { result ≡ weight_at_lem G.Semiring.ops G.Gauge.delays network.now signal pin times }
+    ensures { result ≡ weight_at G.Semiring.ops G.Gauge.delays network.now signal pin times }
 {
     let driver = network.driver(signal).unwrap_or(Driver::Undriven);
     driver_weight(driver, pin, times)
-}
-
-// The start of a signal that the delay table does not name.
-pub(crate) fn unnamed_start<G: Gauge>(network: &Network, signal: usize) -> EdgeMatrix<G>
-    ensures { result ≡ start_at G.Semiring.ops G.Gauge.delays network.now signal no_times_lem }
-{
-    start_at(network, signal, Times::default())
-}
-
-// The weight in the cell of a pin that the delay table does not name.
-pub(crate) fn unnamed_weight<G: Gauge>(network: &Network, cell: usize) -> EdgeMatrix<G>
-    ensures { result ≡ weight_in G.Semiring.ops G.Gauge.delays network.now cell no_times_lem }
-{
-    weight_at(network, cell / 4, cell % 4, Times::default())
 }

@@ -8,12 +8,13 @@ ghost use Rattle.opening.specs.Fills.{starts_with, weights_with, after_all};
 ghost use Rattle.fields.specs.Lists.{fields};
 ghost use Rattle.fields.specs.Says.{entry_of};
 
-use crate::cells::{start_at, store, unnamed_start, unnamed_weight, weight_at};
+use crate::cells::{start_at, store, weight_at};
 use fields::entry::Entry;
 use fields::read::Fields;
 use gauge::gauges::Gauge;
 use gauge::matrix::EdgeMatrix;
 use network::network::Network;
+use weights::times::Times;
 
 // Fills each cell with the value by its number.
 fn fill_table<V: Copy, F: Fn(usize) -> V>(cells: &mut [V], value: F)
@@ -85,11 +86,12 @@ pub(crate) fn fill<G: Gauge>(
     ensures weights { weights.new ≡ weights_by G.Semiring.ops G.Gauge.delays network.now file.now weights.old }
 {
     let signals = network.size();
+    let none = Times::default();
     fill_table(&mut starts[..signals], |signal| {
-        unnamed_start(network, signal)
+        start_at(network, signal, none)
     });
     fill_table(&mut weights[..4 * signals], |cell| {
-        unnamed_weight(network, cell)
+        weight_at(network, cell / 4, cell % 4, none)
     });
     fill_entries(network, file, starts, weights);
 }

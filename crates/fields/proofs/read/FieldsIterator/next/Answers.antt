@@ -9,8 +9,12 @@ returns-clause-steps g c =
     let step = step_open g.T.Says.says c.args.self.now.file.now c.args.self.now.at c.if-self.false in
     let last = step_shut g.T.Says.says c.args.self.now.file.now c.args.self.now.at c.if-self.false in
     elim c.match-field_at.branch [
-      | in-Ok w ↦ rw w.said-is (step w.in-Ok.next (content_of w.in-Ok.field) w.in-Ok.ensures w.decode.result w.decode.ensures)
-      | in-Err w ↦ rw w.said-is (last w.in-Err.fault w.in-Err.ensures)
+      | in-Ok w ↦
+          let more = step w.in-Ok.next (content_of w.in-Ok.field) w.in-Ok.ensures w.decode.result w.decode.ensures in
+          search rules
+      | in-Err w ↦
+          let more = last w.in-Err.fault w.in-Err.ensures in
+          search rules
     ]
 
 pub returns-clause-goes : goal.returns-clause-goes
