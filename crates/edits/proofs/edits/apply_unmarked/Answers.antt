@@ -11,13 +11,13 @@ returns g c =
     let delays = g.G.Gauge.delays in
     let lim = g.W.WaitingList.limit c.args.list.now in
     let x = view_of c.args.board in
-    let z = c.apply_at-answer.new.board in
+    let z = c.apply_at.new.board in
     let y : View _ = record { network = z.0; starts = z.1.0; weights = z.1.1.0; values = z.1.1.1.0 } in
-    let any : (strip : ℕ) → Stepped r delays strip lim 0 c.args.edit x y c.apply_at-answer.result =
-    λ strip. any_strip r delays x y 0 strip lim 0 c.args.edit c.apply_at-answer.result c.requires c.apply_at-answer.ensures.stepped in
+    let any : (strip : ℕ) → Stepped r delays strip lim 0 c.args.edit x y c.apply_at.result =
+    λ strip. any_strip r delays x y 0 strip lim 0 c.args.edit c.apply_at.result c.requires c.apply_at.ensures.stepped in
     record {
       stepped = any;
-      follows = λ strip. follows r delays g.met.G.Semiring.laws strip lim 0 c.args.edit x y c.apply_at-answer.result (any strip);
-      empty = c.apply_at-answer.ensures.empty;
-      limit = c.apply_at-answer.ensures.limit;
+      follows = λ strip. follows r delays g.met.G.Semiring.laws strip lim 0 c.args.edit x y c.apply_at.result (any strip);
+      empty = c.apply_at.ensures.empty;
+      limit = c.apply_at.ensures.limit;
     }
