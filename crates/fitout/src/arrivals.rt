@@ -1,13 +1,9 @@
 // Arrivals of every signal, on each gauge.
-use crate::boards::Tables;
-use crate::show::show_name;
-use gauge::count::Count;
-use gauge::early::Early;
+use crate::boards::{Boards, Tables};
+use crate::show::Printer;
 use gauge::edge::Edge;
 use gauge::gauges::Gauge;
-use gauge::late::Late;
 use gauge::time::Time;
-use network::network::Network;
 use opening::open::Opened;
 use std::io;
 
@@ -19,23 +15,16 @@ pub fn show_clock(rt: &HostRuntime, opened: Opened) -> io::Result<()> {
     println!(rt; "OPENED PERIOD {period} SETUP {setup} HOLD {hold} WORKED {count}")
 }
 
-pub fn show_arrivals(
-    rt: &HostRuntime,
-    netlist: &[u8],
-    network: &Network,
-    late: &Tables<Late>,
-    early: &Tables<Early>,
-    count: &Tables<Count>,
-) -> io::Result<()> {
-    for signal in 0..network.size() {
+pub fn show_arrivals(printer: Printer<'_>, boards: &Boards) -> io::Result<()> {
+    let rt = printer.rt;
+    for signal in 0..printer.network.size() {
+        let signal_name = printer.name(signal);
         for (edge, name) in [(Edge::Rise, "RISE"), (Edge::Fall, "FALL")] {
-            print!(rt; "ARRIVAL ")?;
-            show_name(rt, netlist, network, signal)?;
-            print!(rt; " {name} LATE ")?;
-            show_time(rt, arrival(late, signal, edge).arrival)?;
+            print!(rt; "ARRIVAL {signal_name} {name} LATE ")?;
+            show_time(rt, arrival(&boards.late, signal, edge).arrival)?;
             print!(rt; " EARLY ")?;
-            show_time(rt, arrival(early, signal, edge).arrival)?;
-            let paths = arrival(count, signal, edge).paths();
+            show_time(rt, arrival(&boards.early, signal, edge).arrival)?;
+            let paths = arrival(&boards.count, signal, edge).paths();
             println!(rt; " COUNT {paths}")?;
         }
     }

@@ -12,3 +12,4 @@ pub mod Senses
 pub mod Tally
 pub mod Truth
 pub mod Wiring
+pub mod Words
