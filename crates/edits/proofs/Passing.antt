@@ -20,7 +20,7 @@ use Rattle.book.specs.Judging.{too_short, marks, crosses, known, closes, part_fa
 use Rattle.board.specs.Books.{book_of, lent_of}
 use Rattle.board.specs.Steps.{Stepped}
 use Rattle.board.proofs.Webs.{book_long, pins_are, sources_are}
-use Rattle.edits.specs.Checks.{has_parts_lem, checked}
+use Rattle.edits.specs.Checks.{has_parts, checked}
 
 -- what an answer says of the fault
 pub no_fault : {A : Type 0} (o : Option EditFault) (x y : A) → Ok x ≡ unless o y → o ≡ None
@@ -44,7 +44,7 @@ still false false true true at rest d h = h
 still false false true false at rest d h = let z : ◌≡◌ {A = ℕ} 0 1 = cc in absurd (omega arith)
 
 pub record Clear (short low there cross : Bool) : Type 0 where
-  pub is_long_lem : short ≡ false
+  pub is_long : short ≡ false
   pub is_high : low ≡ false
   pub is_there : there ≡ true
   pub is_right : cross ≡ false
@@ -54,19 +54,19 @@ clear true low there cross at h = let z : ◌≡◌ {A = ℕ} 0 1 = cc in absurd
 clear false true there cross at h = let z : ◌≡◌ {A = ℕ} 0 1 = cc in absurd (omega arith)
 clear false false false cross at h = let z : ◌≡◌ {A = ℕ} 0 1 = cc in absurd (omega arith)
 clear false false true true at h = let z : ◌≡◌ {A = ℕ} 0 1 = cc in absurd (omega arith)
-clear false false true false at h = record { is_long_lem = refl; is_high = refl; is_there = refl; is_right = refl }
+clear false false true false at h = record { is_long = refl; is_high = refl; is_there = refl; is_right = refl }
 
 rest_decides : (short low there cross : Bool) (at : ℕ) (rest : Option EditFault) → Clear short low there cross → all short low there cross at rest ≡ rest
 rest_decides short low there cross at rest h =
-    ap (λ b. all b low there cross at rest) h.is_long_lem ∙ ap (λ b. all false b there cross at rest) h.is_high
+    ap (λ b. all b low there cross at rest) h.is_long ∙ ap (λ b. all false b there cross at rest) h.is_high
     ∙ ap (λ b. all false false b cross at rest) h.is_there ∙ ap (λ b. all false false true b at rest) h.is_right
 
 -- a pin that is there belongs to a signal that is there
 pub pinned : (net : Network) (g k : ℕ) → has (outline_of net) (Pin g k) ≡ true → (g < size net) × (k < fanin net g)
 pinned net g k h = let both = and_parts (ltb g (size net)) (ltb k (fanin net g)) h in (ltb-true g (size net) both.0, ltb-true k (fanin net g) both.1)
 
-has_pin_lem : (net : Network) (g k : ℕ) → ltb k (fanin net g) ≡ has (outline_of net) (Pin g k)
-has_pin_lem net g k =
+pin_told : (net : Network) (g k : ℕ) → ltb k (fanin net g) ≡ has (outline_of net) (Pin g k)
+pin_told net g k =
     ⊎_elim
     (λ l. ap (λ b. b && ltb k (fanin net g)) (sym (lt-ltb g (size net) l)))
     (λ past.
@@ -76,15 +76,15 @@ has_pin_lem net g k =
 
 module _ {V : Type 0} (r : Ops V) (x : View V) where
   -- the book knows what the network has
-  pub known_is : (e : Edit) → known r (book_of r x) e ≡ has_parts_lem x.network e
-  known_is (SetDelay g k t) = ap (ltb k) (pins_are r x g) ∙ has_pin_lem x.network g k
+  pub known_is : (e : Edit) → known r (book_of r x) e ≡ has_parts x.network e
+  known_is (SetDelay g k t) = ap (ltb k) (pins_are r x g) ∙ pin_told x.network g k
   known_is (SetStart s t) = sources_are r x s
-  known_is (Rewire g k u) = ap₂ ◌&&◌ (ap (ltb k) (pins_are r x g) ∙ has_pin_lem x.network g k) (ap (ltb u) (book_long r x))
-  known_is (Cut g k) = ap (ltb k) (pins_are r x g) ∙ has_pin_lem x.network g k
+  known_is (Rewire g k u) = ap₂ ◌&&◌ (ap (ltb k) (pins_are r x g) ∙ pin_told x.network g k) (ap (ltb u) (book_long r x))
+  known_is (Cut g k) = ap (ltb k) (pins_are r x g) ∙ pin_told x.network g k
 
   module _ (strip limit at : ℕ) (e : Edit) where
     judged : judge r (book_of r x) (lent_of x strip limit) at e
-        ≡ all (too_short (marks e) (lent_of x strip limit) (size x.network)) (ltb limit (size x.network)) (has_parts_lem x.network e) (crosses e) at
+        ≡ all (too_short (marks e) (lent_of x strip limit) (size x.network)) (ltb limit (size x.network)) (has_parts x.network e) (crosses e) at
         (cond (closes r (book_of r x) e) (Some (ClosesCycle at)) None)
     unfolding judge
     judged =
@@ -95,12 +95,12 @@ module _ {V : Type 0} (r : Ops V) (x : View V) where
     pub refused : (d : EditFault) → checked x strip limit at e ≡ Some d → judge r (book_of r x) (lent_of x strip limit) at e ≡ Some d
     refused d h =
         judged
-        ∙ still (too_short (marks e) (lent_of x strip limit) (size x.network)) (ltb limit (size x.network)) (has_parts_lem x.network e) (crosses e) at _ d h
+        ∙ still (too_short (marks e) (lent_of x strip limit) (size x.network)) (ltb limit (size x.network)) (has_parts x.network e) (crosses e) at _ d h
 
     -- after the checks, only a cycle is left to judge, and there is room
     pub record Passed : Type 0 where
       pub decided : judge r (book_of r x) (lent_of x strip limit) at e ≡ cond (closes r (book_of r x) e) (Some (ClosesCycle at)) None
-      pub parts : has_parts_lem x.network e ≡ true
+      pub parts : has_parts x.network e ≡ true
       pub starts : size x.network ≤ length x.starts
       pub weights : 4 * size x.network ≤ length x.weights
       pub values : size x.network ≤ length x.values
@@ -111,12 +111,12 @@ module _ {V : Type 0} (r : Ops V) (x : View V) where
     passed h =
         let n = size x.network in
         let short = too_short (marks e) (lent_of x strip limit) n in
-        let c = clear short (ltb limit n) (has_parts_lem x.network e) (crosses e) at h in
-        let both = or_parts (marks e && ltb strip n) (ltb (length x.starts) n || (ltb (length x.weights) (4 * n) || ltb (length x.values) n)) c.is_long_lem in
+        let c = clear short (ltb limit n) (has_parts x.network e) (crosses e) at h in
+        let both = or_parts (marks e && ltb strip n) (ltb (length x.starts) n || (ltb (length x.weights) (4 * n) || ltb (length x.values) n)) c.is_long in
         let tables = or_parts (ltb (length x.starts) n) (ltb (length x.weights) (4 * n) || ltb (length x.values) n) both.1 in
         let others = or_parts (ltb (length x.weights) (4 * n)) (ltb (length x.values) n) tables.1 in
         record {
-          decided = judged ∙ rest_decides short (ltb limit n) (has_parts_lem x.network e) (crosses e) at _ c;
+          decided = judged ∙ rest_decides short (ltb limit n) (has_parts x.network e) (crosses e) at _ c;
           parts = c.is_there;
           starts = ltb-false _ _ tables.0;
           weights = ltb-false _ _ others.0;
