@@ -1,13 +1,23 @@
 -- What it takes for an edit to be refused or accepted.
-use Rattle.std.proofs.Common.{◌≡◌, ℕ, ◌*◌, ◌≤◌, Bool, true, false, cond, not, ◌&&◌, ltb, length, Some, None, Option, sym, refl, ap, ◌∙◌, arith}
+use Rattle.std.proofs.Common.{◌≡◌, ℕ, ◌*◌, ◌≤◌, Bool, true, false, cond, not, ◌&&◌, ltb, length, Some, None, Ok, Err, Option, sym, refl, ap, ◌∙◌, arith}
 use Rattle.std.proofs.lemmas.Bool.{ltb-false, not-false, or_parts, cond-false}
 use Rattle.gauge.specs.Semirings.{Ops}
 use Rattle.fields.specs.declared.edit.Edit.{Edit}
 use Rattle.book.specs.declared.edit_fault.EditFault.{EditFault}
 use Rattle.book.specs.declared.edit_fault.EditFault.TheVariants.{TooShort, LowLimit, NoSuchPart, EarlyAboveLate, ClosesCycle}
+use Rattle.book.specs.Answers.{unless}
 use Rattle.book.specs.Books.{Book}
 use Rattle.book.specs.Faults.{edit_refusal}
 use Rattle.book.specs.Judging.{Lent, too_short, room_fault, marks, crosses, known, closes, part_fault, judge}
+
+-- what an answer says of the fault
+pub no_fault : {A F : Type 0} (o : Option F) (x y : A) → Ok x ≡ unless o y → o ≡ None
+no_fault None x y h = refl
+no_fault (Some d) x y h = let z : ◌≡◌ {A = ℕ} 0 1 = cc in absurd (omega arith)
+
+pub a_fault : {A F : Type 0} (o : Option F) (d : F) (y : A) → Err d ≡ unless o y → o ≡ Some d
+a_fault None d y h = let z : ◌≡◌ {A = ℕ} 0 1 = cc in absurd (omega arith)
+a_fault (Some f) d y h = cc
 
 -- no fault, where one test may find one and then the others
 pub none_parts : {F : Type 0} (b : Bool) (d : F) (o : Option F) → cond b (Some d) o ≡ None → (b ≡ false) × (o ≡ None)

@@ -16,20 +16,12 @@ use Rattle.opening.specs.Boards.{View}
 use Rattle.book.specs.declared.edit_fault.EditFault.{EditFault}
 use Rattle.book.specs.declared.edit_fault.EditFault.TheVariants.{TooShort, LowLimit, NoSuchPart, EarlyAboveLate, ClosesCycle}
 use Rattle.book.specs.Answers.{unless}
+use Rattle.book.proofs.Judged.{no_fault, a_fault}
 use Rattle.book.specs.Judging.{too_short, marks, crosses, known, closes, part_fault, judge}
 use Rattle.board.specs.Books.{book_of, lent_of}
 use Rattle.board.specs.Steps.{Stepped}
 use Rattle.board.proofs.Webs.{book_long, pins_are, sources_are}
 use Rattle.edits.specs.Checks.{has_parts, checked}
-
--- what an answer says of the fault
-pub no_fault : {A : Type 0} (o : Option EditFault) (x y : A) → Ok x ≡ unless o y → o ≡ None
-no_fault None x y h = refl
-no_fault (Some d) x y h = let z : ◌≡◌ {A = ℕ} 0 1 = cc in absurd (omega arith)
-
-pub a_fault : {A : Type 0} (o : Option EditFault) (d : EditFault) (y : A) → Err d ≡ unless o y → o ≡ Some d
-a_fault None d y h = let z : ◌≡◌ {A = ℕ} 0 1 = cc in absurd (omega arith)
-a_fault (Some f) d y h = cc
 
 module _ (short low there cross : Bool) (at : ℕ) where
   abbrev all : Option EditFault → Option EditFault
@@ -92,7 +84,7 @@ module _ {V : Type 0} (r : Ops V) (x : View V) where
         (book_long r x) (known_is e)
 
     -- what the checks refuse, the book refuses
-    pub refused : (d : EditFault) → checked x strip limit at e ≡ Some d → judge r (book_of r x) (lent_of x strip limit) at e ≡ Some d
+    refused : (d : EditFault) → checked x strip limit at e ≡ Some d → judge r (book_of r x) (lent_of x strip limit) at e ≡ Some d
     refused d h =
         judged
         ∙ still (too_short (marks e) (lent_of x strip limit) (size x.network)) (ltb limit (size x.network)) (has_parts x.network e) (crosses e) at _ d h
@@ -107,7 +99,7 @@ module _ {V : Type 0} (r : Ops V) (x : View V) where
       pub marks_fit : marks e ≡ true → size x.network ≤ strip
       pub turns_fit : size x.network ≤ limit
 
-    pub passed : checked x strip limit at e ≡ None → Passed
+    passed : checked x strip limit at e ≡ None → Passed
     passed h =
         let n = size x.network in
         let short = too_short (marks e) (lent_of x strip limit) n in
@@ -124,6 +116,17 @@ module _ {V : Type 0} (r : Ops V) (x : View V) where
           marks_fit = λ m. ltb-false strip n (subst (λ (b : Bool). (b && ltb strip n) ≡ false) m both.0);
           turns_fit = ltb-false limit n c.is_high;
         }
+
+    -- the same, of the answer of the checks to the limit as it was told
+    module _ (told : ℕ) (is : told ≡ limit) where
+      checked_alike : checked x strip limit at e ≡ checked x strip told at e
+      checked_alike = sym (ap (λ (l : ℕ). checked x strip l at e) is)
+
+      pub refused_told : (d : EditFault) → Err d ≡ unless (checked x strip told at e) (tt {0}) → judge r (book_of r x) (lent_of x strip limit) at e ≡ Some d
+      refused_told d h = refused d (checked_alike ∙ a_fault _ d (tt {0}) h)
+
+      pub passed_told : Ok (tt {0}) ≡ unless (checked x strip told at e) (tt {0}) → Passed
+      passed_told h = passed (checked_alike ∙ no_fault _ (tt {0}) (tt {0}) h)
 
 -- a refused edit leaves the board as it is
 pub step_refused : {G : Type 0} (r : Ops G) (delays : ℕ → ℕ → G) (x : View (EdgeMatrix G)) (strip limit at : ℕ) (e : Edit) (a : Result ℕ EditFault) (d : EditFault)

@@ -15,19 +15,11 @@ use Rattle.book.specs.declared.edit_fault.EditFault.TheVariants.{TooShort, LowLi
 use Rattle.book.specs.declared.script_fault.ScriptFault.{ScriptFault}
 use Rattle.book.specs.declared.script_fault.ScriptFault.TheVariants as fault
 use Rattle.book.specs.Faults.{no_room}
+use Rattle.book.proofs.Judged.{no_fault, a_fault}
 use Rattle.book.specs.Answers.{unless, script_fault, judge_script}
 use Rattle.book.specs.Judging.{room_fault}
 use Rattle.board.specs.Books.{book_of, lent_of}
 use Rattle.board.proofs.Webs.{book_long}
-
--- what an answer says of the fault
-pub no_fault : {F : Type 0} (o : Option F) → Ok (tt {0}) ≡ unless o (tt {0}) → o ≡ None
-no_fault None h = refl
-no_fault (Some d) h = let z : ◌≡◌ {A = ℕ} 0 1 = cc in absurd (omega arith)
-
-pub a_fault : {F : Type 0} (o : Option F) (d : F) → Err d ≡ unless o (tt {0}) → o ≡ Some d
-a_fault None d h = let z : ◌≡◌ {A = ℕ} 0 1 = cc in absurd (omega arith)
-a_fault (Some f) d h = cc
 
 -- the same by the book as by the board
 same_room : (short low : Bool) → result_map_both (λ done. done) no_room (cond short (Err rooms.TooShort) (cond low (Err rooms.LowLimit) (Ok (tt {0})))) ≡ unless (cond short (Some TooShort) (cond low (Some LowLimit) None)) tt
@@ -51,14 +43,14 @@ module _ {G : Type 0} (r : Ops G) (delays : ℕ → ℕ → G) (x : View (EdgeMa
   -- no room
   pub room_refused : (d : RoomFault) (a : Result (Unit {0}) ScriptFault) → Err d ≡ room_in x (Some strip) limit → a ≡ Err (fault.Edit (no_room d))
       → a ≡ unless (judge_script r delays (lent_of x strip limit) (book_of (edge_ops r) x) file) (tt {0})
-  room_refused d a h is = is ∙ sym (ap (λ (o : Option ScriptFault). unless o (tt {0})) (by_room (Some (no_room d)) (a_fault room (no_room d) (room_told (Err d) h))))
+  room_refused d a h is = is ∙ sym (ap (λ (o : Option ScriptFault). unless o (tt {0})) (by_room (Some (no_room d)) (a_fault room (no_room d) (tt {0}) (room_told (Err d) h))))
 
   -- room, and then the length
   pub length_judged : Ok (tt {0}) ≡ room_in x (Some strip) limit → (b : Bool) → b ≡ ltb file_limit (length file)
       → cond b (Err fault.FileTooLong) (Ok (tt {0})) ≡ unless (judge_script r delays (lent_of x strip limit) (book_of (edge_ops r) x) file) (tt {0})
   length_judged h b is =
       by_length b ∙ ap (λ (c : Bool). unless (cond c (Some fault.FileTooLong) None) (tt {0})) is
-      ∙ sym (ap (λ (o : Option ScriptFault). unless o (tt {0})) (by_room None (no_fault room (room_told (Ok tt) h))))
+      ∙ sym (ap (λ (o : Option ScriptFault). unless o (tt {0})) (by_room None (no_fault room (tt {0}) (tt {0}) (room_told (Ok tt) h))))
     where
       by_length : (c : Bool) → cond c (Err fault.FileTooLong) (Ok (tt {0})) ≡ unless (cond c (Some fault.FileTooLong) None) (tt {0})
       by_length true = refl
