@@ -2,6 +2,7 @@
 use Rattle.std.proofs.Common.{◌≡◌, ℕ, ◌*◌, ◌<◌, ◌≤◌, Bool, true, false, cond, not, ◌&&◌, ◌||◌, ltb, length, Some, None, Ok, Err, Option, Result, sym, refl, ap, ◌∙◌, subst, ap₂, ⊎_elim, arith}
 use Rattle.std.proofs.lemmas.List.{get_or_past}
 use Rattle.std.proofs.lemmas.Bool.{cases_lt, lt-ltb, le-ltb, ltb-true, ltb-false, and_parts, or_parts}
+use Rattle.std.proofs.lemmas.Option.{none-some}
 use Rattle.gauge.specs.Matrix.{edge_ops}
 use Rattle.gauge.specs.Semirings.{Ops}
 use Rattle.gauge.specs.declared.matrix.EdgeMatrix.{EdgeMatrix}
@@ -33,7 +34,7 @@ still true low there cross at rest d h = h
 still false true there cross at rest d h = h
 still false false false cross at rest d h = h
 still false false true true at rest d h = h
-still false false true false at rest d h = let z : ◌≡◌ {A = ℕ} 0 1 = cc in absurd (omega arith)
+still false false true false at rest d h = absurd (none-some d h)
 
 pub record Clear (short low there cross : Bool) : Type 0 where
   pub is_long : short ≡ false
@@ -42,10 +43,10 @@ pub record Clear (short low there cross : Bool) : Type 0 where
   pub is_right : cross ≡ false
 
 clear : (short low there cross : Bool) (at : ℕ) → all short low there cross at None ≡ None → Clear short low there cross
-clear true low there cross at h = let z : ◌≡◌ {A = ℕ} 0 1 = cc in absurd (omega arith)
-clear false true there cross at h = let z : ◌≡◌ {A = ℕ} 0 1 = cc in absurd (omega arith)
-clear false false false cross at h = let z : ◌≡◌ {A = ℕ} 0 1 = cc in absurd (omega arith)
-clear false false true true at h = let z : ◌≡◌ {A = ℕ} 0 1 = cc in absurd (omega arith)
+clear true low there cross at h = absurd (none-some _ (sym h))
+clear false true there cross at h = absurd (none-some _ (sym h))
+clear false false false cross at h = absurd (none-some _ (sym h))
+clear false false true true at h = absurd (none-some _ (sym h))
 clear false false true false at h = record { is_long = refl; is_high = refl; is_there = refl; is_right = refl }
 
 rest_decides : (short low there cross : Bool) (at : ℕ) (rest : Option EditFault) → Clear short low there cross → all short low there cross at rest ≡ rest

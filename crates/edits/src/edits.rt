@@ -1,4 +1,6 @@
 // The four edits, as direct calls: a refusal's place is 0.
+// Board, list and strip stay three parameters: a struct of them is no plainer, since each call would still promise the same of each.
+// Each edit stays beside `apply`, which makes any of them, since those that mark nothing are promised for every strip.
 ghost use Rattle.std.specs.Prelude.{◌≡◌, ℕ, false, length, replicate};
 ghost use Rattle.waiting.specs.Turns.{Empty};
 ghost use Rattle.fields.specs.declared.edit.Edit.TheVariants.{SetDelay, SetStart, Rewire, Cut};

@@ -1,6 +1,7 @@
 -- What is judged of a script before its first field.
-use Rattle.std.proofs.Common.{◌≡◌, ℕ, ◌≤◌, Bool, true, false, cond, ◌||◌, ltb, List, length, Some, None, Ok, Err, Option, Result, sym, refl, ap, ◌∙◌, arith}
+use Rattle.std.proofs.Common.{◌≡◌, ℕ, ◌≤◌, Bool, true, false, cond, ◌||◌, ltb, List, length, Some, None, Ok, Err, Option, Result, sym, refl, ap, ◌∙◌}
 use Rattle.std.proofs.lemmas.Bool.{ltb-false}
+use Rattle.std.proofs.lemmas.Option.{none-some}
 use Rattle.std.specs.Result.{result_map_both}
 use Rattle.gauge.specs.Matrix.{edge_ops}
 use Rattle.gauge.specs.Semirings.{Ops}
@@ -62,9 +63,9 @@ pub not_long : {G : Type 0} (r : Ops G) (delays : ℕ → ℕ → G) (x : View (
 not_long r delays x strip limit file h = by_room (room_fault true (lent_of x strip limit) (length (book_of (edge_ops r) x))) h
   where
     by_length : (b : Bool) → cond b (Some fault.FileTooLong) None ≡ None → b ≡ false
-    by_length true e = let z : ◌≡◌ {A = ℕ} 0 1 = cc in absurd (omega arith)
+    by_length true e = absurd (none-some _ (sym e))
     by_length false e = refl
 
     by_room : (o : Option EditFault) → script_fault r delays (lent_of x strip limit) o file ≡ None → length file ≤ file_limit
     by_room None e = ltb-false file_limit (length file) (by_length (ltb file_limit (length file)) e)
-    by_room (Some d) e = let z : ◌≡◌ {A = ℕ} 0 1 = cc in absurd (omega arith)
+    by_room (Some d) e = absurd (none-some _ (sym e))

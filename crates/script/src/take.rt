@@ -38,6 +38,7 @@ pub(crate) fn take_fields<G: Gauge, W: WaitingList>(
     let mut total = 0;
     while at < file.len() {
         let (edit, next) = read_edit(file, at)?;
+        // `lend!` takes its board, so that at each turn the parts are lent by hand
         let whole = Board {
             network: &mut *network,
             starts: &mut *starts,
