@@ -137,9 +137,9 @@ module _ {G : Type 0} (r : Ops G) (delays : ℕ → ℕ → G) where
   -- what the book answers and how it stands after an edit, by what it judges
   module _ (strip limit at : ℕ) (e : Edit) (x : View (EdgeMatrix G)) {o : Option EditFault}
       (judged : judge (edge_ops r) (book_of (edge_ops r) x) (lent_of x strip limit) at e ≡ o) where
-    pub next_by_lem : next r delays (lent_of x strip limit) (book_of (edge_ops r) x) at e ≡ next_by r delays (lent_of x strip limit) o (book_of (edge_ops r) x) e
+    pub next_judged : next r delays (lent_of x strip limit) (book_of (edge_ops r) x) at e ≡ next_by r delays (lent_of x strip limit) o (book_of (edge_ops r) x) e
     unfolding next
-    next_by_lem = ap (λ (v : Option EditFault). next_by r delays (lent_of x strip limit) v (book_of (edge_ops r) x) e) judged
+    next_judged = ap (λ (v : Option EditFault). next_by r delays (lent_of x strip limit) v (book_of (edge_ops r) x) e) judged
 
     pub answer_by : answer r delays (lent_of x strip limit) (book_of (edge_ops r) x) at e ≡ unless o (count r delays (book_of (edge_ops r) x) e)
     unfolding answer
@@ -149,7 +149,7 @@ module _ {G : Type 0} (r : Ops G) (delays : ℕ → ℕ → G) where
       → Follows r delays strip limit at e x y a
   unfolding count
   follows laws strip limit at e x y (Err d) h = record {
-    book = ap (book_of (edge_ops r)) h.1 ∙ sym (next_by_lem strip limit at e x h.0);
+    book = ap (book_of (edge_ops r)) h.1 ∙ sym (next_judged strip limit at e x h.0);
     sums = subst (Sums (edge_ops r)) (sym h.1);
     told = λ was. sym (answer_by strip limit at e x h.0);
   }
@@ -168,7 +168,7 @@ module _ {G : Type 0} (r : Ops G) (delays : ℕ → ℕ → G) where
       (subst (λ (b : Book (EdgeMatrix G)). SameExcept (only (edited_by e)) old (web (edge_ops r) b)) (sym next-book) (same_except r delays e book))
       (value_of (edge_ops r) x) (value_of (edge_ops r) y) was acc.settled in
       record {
-        book = next-book ∙ sym (next_by_lem strip limit at e x h.0);
+        book = next-book ∙ sym (next_judged strip limit at e x h.0);
         sums = λ was. (right was).sums;
         told = λ was.
             ap Ok

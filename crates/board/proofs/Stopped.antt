@@ -1,5 +1,5 @@
 -- A script that is refused at a field leaves a board that its bytes before that field leave.
-use Rattle.std.proofs.Common.{◌≡◌, ℕ, ◌+◌, true, List, [], ◌∷◌, ◌++◌, length, take, None, Ok, Err, Option, Result, sym, refl, ap, ◌∙◌, subst, arith}
+use Rattle.std.proofs.Common.{◌≡◌, ℕ, ◌+◌, true, List, [], ◌∷◌, ◌++◌, length, take, None, Ok, Err, Option, Result, sym, refl, ap, ◌∙◌, subst}
 use Rattle.std.specs.List.{AllByRecursion}
 use Rattle.fault.specs.declared.refusal.Refusal.{Refusal}
 use Rattle.gauge.specs.Matrix.{edge_ops}
@@ -19,7 +19,7 @@ use Rattle.book.specs.declared.script_fault.ScriptFault.TheVariants as fault
 use Rattle.book.specs.Faults.{script_refusal}
 use Rattle.book.specs.Judging.{Lent, room_fault}
 use Rattle.book.specs.Answers.{as_call}
-use Rattle.book.proofs.Judged.{judge_place}
+use Rattle.book.proofs.Judged.{ok-err, judge_place}
 use Rattle.book.proofs.Stopping.{RefusedThere, fields_refused, script_room, script_take}
 use Rattle.board.specs.Books.{book_of, lent_of}
 use Rattle.board.specs.Steps.{Stepped}
@@ -46,7 +46,7 @@ module _ {G : Type 0} (r : Ops G) (delays : ℕ → ℕ → G) (strip limit : �
   -- a step that is refused, at its place, moves nothing
   step_stays : (at : ℕ) (e : Edit) (x z : View (EdgeMatrix G)) (b : Result ℕ EditFault) (c : ScriptFault) → Stepped r delays strip limit at e x z b
       → Err c ≡ as_call b → Room x → (z ≡ x) × ((script_refusal c).place ≡ at)
-  step_stays at e x z (Ok n) c step is room = let z : ◌≡◌ {A = ℕ} 0 1 = cc in absurd (omega arith)
+  step_stays at e x z (Ok n) c step is room = absurd (ok-err (sym is))
   step_stays at e x z (Err d) c (judged, same) is room =
       let edit : c ≡ fault.Edit d = cc in (
         same,
@@ -102,7 +102,7 @@ module _ {G : Type 0} (r : Ops G) (delays : ℕ → ℕ → G) (strip limit : �
 
   stop_at : (fs : List (Placed Edit)) (total : ℕ) (x y : View (EdgeMatrix G)) (d : ScriptFault) → AllByRecursion RefusedThere fs → Room x
       → Taken r delays strip limit fs total x y (Err d) → Stop fs total x y d
-  stop_at [] total x y d there room (same, is) = let z : ◌≡◌ {A = ℕ} 0 1 = cc in absurd (omega arith)
+  stop_at [] total x y d there room (same, is) = absurd (ok-err (sym is))
   stop_at (f ∷ fs) total x y d there room (z, b, here, rest) =
       let on : Room z = field_room f.at f.said x z b here room in
       stop_by f fs total x z y d b here rest there.0 room (λ n more. stop_at fs (total + n) z y d there.1 on more)

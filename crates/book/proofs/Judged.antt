@@ -1,17 +1,31 @@
 -- What it takes for an edit to be refused or accepted.
-use Rattle.std.proofs.Common.{◌≡◌, ℕ, ◌*◌, ◌≤◌, Bool, true, false, cond, not, ◌&&◌, ltb, length, Some, None, Option, sym, refl, ap, ◌∙◌, arith}
+use Rattle.std.proofs.Common.{◌≡◌, ℕ, ◌*◌, ◌≤◌, Bool, true, false, cond, not, ◌&&◌, ltb, length, Some, None, Ok, Err, Option, sym, refl, ap, ◌∙◌, arith}
 use Rattle.std.proofs.lemmas.Bool.{ltb-false, not-false, or_parts, cond-false}
+use Rattle.std.proofs.lemmas.Option.{none-some}
 use Rattle.gauge.specs.Semirings.{Ops}
 use Rattle.fields.specs.declared.edit.Edit.{Edit}
 use Rattle.book.specs.declared.edit_fault.EditFault.{EditFault}
 use Rattle.book.specs.declared.edit_fault.EditFault.TheVariants.{TooShort, LowLimit, NoSuchPart, EarlyAboveLate, ClosesCycle}
+use Rattle.book.specs.Answers.{unless}
 use Rattle.book.specs.Books.{Book}
 use Rattle.book.specs.Faults.{edit_refusal}
 use Rattle.book.specs.Judging.{Lent, too_short, room_fault, marks, crosses, known, closes, part_fault, judge}
 
+pub ok-err : {A F : Type 0} {x : A} {d : F} → Ok x ≡ Err d → ⊥
+ok-err h = let z : ◌≡◌ {A = ℕ} 0 1 = cc in omega arith
+
+-- what an answer says of the fault
+pub no_fault : {A F : Type 0} (o : Option F) (x y : A) → Ok x ≡ unless o y → o ≡ None
+no_fault None x y h = refl
+no_fault (Some d) x y h = absurd (ok-err h)
+
+pub a_fault : {A F : Type 0} (o : Option F) (d : F) (y : A) → Err d ≡ unless o y → o ≡ Some d
+a_fault None d y h = absurd (ok-err (sym h))
+a_fault (Some f) d y h = cc
+
 -- no fault, where one test may find one and then the others
 pub none_parts : {F : Type 0} (b : Bool) (d : F) (o : Option F) → cond b (Some d) o ≡ None → (b ≡ false) × (o ≡ None)
-none_parts true d o h = let z : ◌≡◌ {A = ℕ} 0 1 = cc in absurd (omega arith)
+none_parts true d o h = absurd (none-some d (sym h))
 none_parts false d o h = (refl, h)
 
 -- with enough room, neither test finds a fault
@@ -36,7 +50,7 @@ parts_place : (there cross close : Bool) (at : ℕ) (d : EditFault)
 parts_place false cross close at d h = let same : d ≡ NoSuchPart at = cc in ap (λ (x : EditFault). (edit_refusal x).place) same
 parts_place true true close at d h = let same : d ≡ EarlyAboveLate at = cc in ap (λ (x : EditFault). (edit_refusal x).place) same
 parts_place true false true at d h = let same : d ≡ ClosesCycle at = cc in ap (λ (x : EditFault). (edit_refusal x).place) same
-parts_place true false false at d h = let z : ◌≡◌ {A = ℕ} 0 1 = cc in absurd (omega arith)
+parts_place true false false at d h = absurd (none-some d h)
 
 -- what is lent has room for n signals
 pub record Roomy (strip : Bool) (l : Lent) (n : ℕ) : Type 0 where

@@ -3,6 +3,7 @@ use Rattle.std.proofs.Common.{◌≡◌, ℕ, zero, suc, ◌+◌, ◌≤◌, tru
 use Rattle.std.specs.List.{AllByRecursion}
 use Rattle.std.proofs.lemmas.List.{length-take}
 use Rattle.std.proofs.lemmas.Bool.{ltb-false, le-ltb, cond-false}
+use Rattle.std.proofs.lemmas.Option.{none-some}
 use Rattle.fault.specs.declared.refusal.Refusal.{Refusal}
 use Rattle.gauge.specs.Matrix.{edge_ops}
 use Rattle.gauge.specs.Semirings.{Ops}
@@ -22,9 +23,9 @@ use Rattle.book.specs.declared.script_fault.ScriptFault.TheVariants as fault
 use Rattle.book.specs.Books.{Book}
 use Rattle.book.specs.Faults.{script_refusal}
 use Rattle.book.specs.Judging.{Lent, room_fault, judge}
-use Rattle.book.specs.Answers.{as_call, unless, count, answer, field_answer, field_next, summed, fields_answer, fields_next, script_fault, judge_script, script_by, script_next_by}
+use Rattle.book.specs.Answers.{as_call, count, answer, field_answer, field_next, summed, fields_answer, fields_next, script_fault, judge_script, script_by, script_next_by}
 use Rattle.book.specs.Laws.{StopsAsIfEnded}
-use Rattle.book.proofs.Judged.{none_parts, judge_place}
+use Rattle.book.proofs.Judged.{ok-err, a_fault, none_parts, judge_place}
 use Rattle.book.proofs.Lengths.{field_next_long}
 
 -- what a field lacks is refused at its place
@@ -42,17 +43,13 @@ fields_refused file = placed_refused 0 0 file
 
 -- the fault of an edit among those of scripts
 call_fault : (a : Result ℕ EditFault) (d : ScriptFault) → as_call a ≡ Err d → (b : EditFault) × (a ≡ Err b) × (d ≡ fault.Edit b)
-call_fault (Ok n) d h = let z : ◌≡◌ {A = ℕ} 0 1 = cc in absurd (omega arith)
+call_fault (Ok n) d h = absurd (ok-err h)
 call_fault (Err b) d h = let same : d ≡ fault.Edit b = cc in (b, refl, same)
-
-unless_fault : {A F : Type 0} (o : Option F) (x : A) (d : F) → unless o x ≡ Err d → o ≡ Some d
-unless_fault None x d h = let z : ◌≡◌ {A = ℕ} 0 1 = cc in absurd (omega arith)
-unless_fault (Some c) x d h = cc
 
 module _ {G : Type 0} (r : Ops G) (delays : ℕ → ℕ → G) (l : Lent) where
   -- a script is judged without fault: the room suffices, and the file is not too long
   script_none : (o : Option EditFault) (file : List ℕ) → script_fault r delays l o file ≡ None → (o ≡ None) × (ltb file_limit (length file) ≡ false)
-  script_none (Some d) file h = let z : ◌≡◌ {A = ℕ} 0 1 = cc in absurd (omega arith)
+  script_none (Some d) file h = absurd (none-some _ (sym h))
   script_none None file h = (refl, (none_parts (ltb file_limit (length file)) fault.FileTooLong None h).0)
 
   module _ (book : Book (EdgeMatrix G)) (file : List ℕ) (judged : judge_script r delays l book file ≡ None) where
@@ -72,7 +69,7 @@ module _ {G : Type 0} (r : Ops G) (delays : ℕ → ℕ → G) (l : Lent) where
   unfolding answer
   field_place book at (Ok e) d there room h =
       let bad = call_fault (answer r delays l book at e) d h in
-      let judged = unless_fault (judge (edge_ops r) book l at e) (count r delays book e) bad.0 bad.1 in
+      let judged = a_fault (judge (edge_ops r) book l at e) bad.0 (count r delays book e) (sym bad.1) in
       ap (λ (x : ScriptFault). (script_refusal x).place) bad.2 ∙ judge_place (edge_ops r) book l at e bad.0 room judged
   field_place book at (Err f) d there room h =
       let same : d ≡ fault.Field f = cc in
@@ -123,7 +120,7 @@ module _ {G : Type 0} (r : Ops G) (delays : ℕ → ℕ → G) (l : Lent) where
 
   stop_at : (fs : List (Placed Edit)) (book : Book (EdgeMatrix G)) (total : ℕ) (d : ScriptFault) → AllByRecursion RefusedThere fs
       → room_fault true l (length book) ≡ None → fields_answer r delays l book total fs ≡ Err d → Stop book total fs d
-  stop_at [] book total d there room h = let z : ◌≡◌ {A = ℕ} 0 1 = cc in absurd (omega arith)
+  stop_at [] book total d there room h = absurd (ok-err h)
   stop_at (f ∷ fs) book total d there room h =
       let same : length (field_next r delays l book f.at f.said) ≡ length book = field_next_long r delays l book f.at f.said in
       let on : room_fault true l (length (field_next r delays l book f.at f.said)) ≡ None = ap (room_fault true l) same ∙ room in

@@ -1,10 +1,11 @@
 ghost use Rattle.std.specs.Prelude.{◌≡◌};
-ghost use Rattle.book.specs.Faults.{script_refusal};
+ghost use Rattle.book.specs.Faults.{no_room, script_refusal};
 ghost use Rattle.book.specs.declared.script_fault.ScriptFault.TheVariants.{Field, Edit};
 
 use crate::edit_fault::EditFault;
 use fault::cause::Cause;
 use fault::refusal::Refusal;
+use fault::room_fault::RoomFault;
 use fields::faults::FieldFault;
 use fields::field::FILE_LIMIT;
 
@@ -29,6 +30,14 @@ impl From<EditFault> for ScriptFault {
 
     fn from(fault: EditFault) -> ScriptFault {
         ScriptFault::Edit(fault)
+    }
+}
+
+impl From<RoomFault> for ScriptFault {
+    ghost from_gives = { λ f r. r ≡ Edit (no_room f) };
+
+    fn from(fault: RoomFault) -> ScriptFault {
+        ScriptFault::Edit(fault.into())
     }
 }
 

@@ -23,29 +23,29 @@ use Rattle.board.specs.Steps.{Stepped}
 use Rattle.board.proofs.Lasting.{signals_long, starts_long, weights_long}
 use Rattle.board.proofs.Reaching.{downstream_reached, apart_reached}
 use Rattle.board.proofs.Webs.{webs_agree, settled_over, count_over}
-use Rattle.edits.specs.Checks.{has_parts_lem}
+use Rattle.edits.specs.Checks.{has_parts}
 use Rattle.edits.specs.Writes.{Closing, Wrote, Left}
 use Rattle.edits.proofs.Passing.{pinned, Passed}
 
 -- the edited signal is there
-pub edited_there : (net : Network) (e : Edit) → has_parts_lem net e ≡ true → edited_by e < size net
+pub edited_there : (net : Network) (e : Edit) → has_parts net e ≡ true → edited_by e < size net
 edited_there net (SetDelay g k t) h = (pinned net g k h).0
 edited_there net (SetStart s t) h = ltb-true s (size net) (and_parts (ltb s (size net)) (is_source_of net s) h).0
 edited_there net (Rewire g k u) h = (pinned net g k (and_parts (has (outline_of net) (Pin g k)) (ltb u (size net)) h).0).0
 edited_there net (Cut g k) h = (pinned net g k h).0
 
-feeder_there : (net : Network) (g k u : ℕ) → has_parts_lem net (Rewire g k u) ≡ true → u < size net
+feeder_there : (net : Network) (g k u : ℕ) → has_parts net (Rewire g k u) ≡ true → u < size net
 feeder_there net g k u h = ltb-true u (size net) (and_parts (has (outline_of net) (Pin g k)) (ltb u (size net)) h).1
 
 module _ {V : Type 0} (r : Ops V) (x : View V) where
   -- the book tells the edits that would close a cycle
-  closing_told : (e : Edit) → has_parts_lem x.network e ≡ true → Closing x.network e → closes r (book_of r x) e ≡ true
+  closing_told : (e : Edit) → has_parts x.network e ≡ true → Closing x.network e → closes r (book_of r x) e ≡ true
   closing_told (SetDelay g k t) h c = absurd c
   closing_told (SetStart s t) h c = absurd c
   closing_told (Rewire g k u) h c = downstream_reached r x g u (feeder_there x.network g k u h) c
   closing_told (Cut g k) h c = absurd c
 
-  apart_told : (e : Edit) → has_parts_lem x.network e ≡ true → (Closing x.network e → ⊥) → closes r (book_of r x) e ≡ false
+  apart_told : (e : Edit) → has_parts x.network e ≡ true → (Closing x.network e → ⊥) → closes r (book_of r x) e ≡ false
   apart_told (SetDelay g k t) h c = refl
   apart_told (SetStart s t) h c = refl
   apart_told (Rewire g k u) h c = apart_reached r x g u (feeder_there x.network g k u h) c

@@ -3,7 +3,7 @@ ghost use Rattle.std.specs.Prelude.{◌≡◌};
 ghost use Rattle.opening.specs.Boards.{view_of};
 ghost use Rattle.book.specs.Answers.{unless};
 ghost use Rattle.book.specs.Judging.{marks, crosses};
-ghost use Rattle.edits.specs.Checks.{has_parts_lem, checked};
+ghost use Rattle.edits.specs.Checks.{has_parts, checked};
 
 use book::edit_fault::EditFault;
 use delays::parts::{has_pin, has_source, is_too_early};
@@ -13,7 +13,7 @@ use opening::board::Board;
 
 // Does the network have what the edit names?
 fn has_parts(network: &Network, edit: Edit) -> bool
-    ensures { result ≡ has_parts_lem network.now edit }
+    ensures { result ≡ has_parts network.now edit }
 {
     match edit {
         Edit::SetDelay { gate, pin, .. } | Edit::Cut { gate, pin } => {

@@ -1,4 +1,6 @@
 // The four edits, as direct calls: a refusal's place is 0.
+// Board, list and strip stay three parameters: a struct of them is no plainer, since each call would still promise the same of each.
+// Each edit stays beside `apply`, which makes any of them, since those that mark nothing are promised for every strip.
 ghost use Rattle.std.specs.Prelude.{◌≡◌, ℕ, false, length, replicate};
 ghost use Rattle.waiting.specs.Turns.{Empty};
 ghost use Rattle.fields.specs.declared.edit.Edit.TheVariants.{SetDelay, SetStart, Rewire, Cut};
@@ -30,9 +32,8 @@ pub fn apply<G: Gauge, W: WaitingList>(
     ensures empty { Empty (W.WaitingList.waits list.new) }
     ensures limit { W.WaitingList.limit list.new ≡ W.WaitingList.limit list.old }
 {
-    lend!(board);
     let marks = Marks { cells: strip };
-    apply_at(board, list, marks.cells, edit, 0)
+    lend!(board => apply_at(board, list, marks.cells, edit, 0))
 }
 
 // Makes an edit that marks nothing, so that no strip is lent.
@@ -48,9 +49,7 @@ fn apply_unmarked<G: Gauge, W: WaitingList>(
     ensures limit { W.WaitingList.limit list.new ≡ W.WaitingList.limit list.old }
 {
     let mut no_strip = [];
-    lend!(board);
-    let answer = apply_at(board, list, &mut no_strip, edit, 0);
-    answer
+    lend!(board => apply_at(board, list, &mut no_strip, edit, 0))
 }
 
 /// Renews the weight of a gate's pin by other delays.
@@ -66,9 +65,7 @@ pub fn set_delay<G: Gauge, W: WaitingList>(
     ensures empty { Empty (W.WaitingList.waits list.new) }
     ensures limit { W.WaitingList.limit list.new ≡ W.WaitingList.limit list.old }
 {
-    lend!(board);
-    let answer = apply_unmarked(board, list, Edit::SetDelay { gate, pin, times });
-    answer
+    lend!(board => apply_unmarked(board, list, Edit::SetDelay { gate, pin, times }))
 }
 
 /// Renews the start of a source.
@@ -83,9 +80,7 @@ pub fn set_start<G: Gauge, W: WaitingList>(
     ensures empty { Empty (W.WaitingList.waits list.new) }
     ensures limit { W.WaitingList.limit list.new ≡ W.WaitingList.limit list.old }
 {
-    lend!(board);
-    let answer = apply_unmarked(board, list, Edit::SetStart { source, times });
-    answer
+    lend!(board => apply_unmarked(board, list, Edit::SetStart { source, times }))
 }
 
 /// Gives a gate's pin another feeding signal, and keeps its weight.
@@ -103,15 +98,9 @@ pub fn rewire<G: Gauge, W: WaitingList>(
     ensures empty { Empty (W.WaitingList.waits list.new) }
     ensures limit { W.WaitingList.limit list.new ≡ W.WaitingList.limit list.old }
 {
-    lend!(board);
     let marks = Marks { cells: strip };
-    apply_at(
-        board,
-        list,
-        marks.cells,
-        Edit::Rewire { gate, pin, feeder },
-        0,
-    )
+    let edit = Edit::Rewire { gate, pin, feeder };
+    lend!(board => apply_at(board, list, marks.cells, edit, 0))
 }
 
 /// Makes the weight of a gate's pin zero, until a delay is set.
@@ -126,7 +115,5 @@ pub fn cut<G: Gauge, W: WaitingList>(
     ensures empty { Empty (W.WaitingList.waits list.new) }
     ensures limit { W.WaitingList.limit list.new ≡ W.WaitingList.limit list.old }
 {
-    lend!(board);
-    let answer = apply_unmarked(board, list, Edit::Cut { gate, pin });
-    answer
+    lend!(board => apply_unmarked(board, list, Edit::Cut { gate, pin }))
 }

@@ -3,7 +3,7 @@ ghost use Rattle.std.specs.Prelude.{◌≡◌, ◌+◌, ◌*◌, ◌≤◌, true
 ghost use Rattle.network.specs.Net.{size};
 ghost use Rattle.book.specs.Changes.{edited_by};
 ghost use Rattle.book.specs.Judging.{marks};
-ghost use Rattle.edits.specs.Checks.{has_parts_lem};
+ghost use Rattle.edits.specs.Checks.{has_parts};
 ghost use Rattle.edits.specs.Writes.{Written};
 
 use book::edit_fault::EditFault;
@@ -43,7 +43,7 @@ pub(crate) fn write<G: Gauge>(
     edit: Edit,
     at: usize,
 ) -> Result<(), EditFault>
-    requires parts { has_parts_lem network.old edit ≡ true }
+    requires parts { has_parts network.old edit ≡ true }
     requires strip_long { marks edit ≡ true → size network.old ≤ length strip.old }
     ensures { Written G.Semiring.ops G.Gauge.delays edit at network.old network.new starts.old starts.new weights.old weights.new result }
 {

@@ -1,12 +1,8 @@
 // Arrivals of every signal, on each gauge.
-use crate::boards::Tables;
-use crate::show::show_name;
-use gauge::count::Count;
-use gauge::early::Early;
+use crate::boards::{Boards, Tables};
+use crate::show::Printer;
 use gauge::edge::Edge;
 use gauge::gauges::Gauge;
-use gauge::late::Late;
-use network::network::Network;
 use opening::open::Opened;
 use std::io;
 
@@ -18,22 +14,15 @@ pub fn show_clock(rt: &HostRuntime, opened: Opened) -> io::Result<()> {
     println!(rt; "OPENED PERIOD {period} SETUP {setup} HOLD {hold} WORKED {count}")
 }
 
-pub fn show_arrivals(
-    rt: &HostRuntime,
-    netlist: &[u8],
-    network: &Network,
-    late: &Tables<Late>,
-    early: &Tables<Early>,
-    count: &Tables<Count>,
-) -> io::Result<()> {
-    for signal in 0..network.size() {
+pub fn show_arrivals(printer: Printer<'_>, boards: &Boards) -> io::Result<()> {
+    let rt = printer.rt;
+    for signal in 0..printer.network.size() {
+        let name = printer.name(signal);
         for edge in [Edge::Rise, Edge::Fall] {
-            print!(rt; "ARRIVAL ")?;
-            show_name(rt, netlist, network, signal)?;
-            let late = arrival(late, signal, edge);
-            let early = arrival(early, signal, edge);
-            let paths = arrival(count, signal, edge).paths();
-            println!(rt; " {edge} LATE {late} EARLY {early} COUNT {paths}")?;
+            let late = arrival(&boards.late, signal, edge);
+            let early = arrival(&boards.early, signal, edge);
+            let paths = arrival(&boards.count, signal, edge).paths();
+            println!(rt; "ARRIVAL {name} {edge} LATE {late} EARLY {early} COUNT {paths}")?;
         }
     }
     Ok(())

@@ -1,6 +1,9 @@
 // Boards over the three gauges, opened on one network.
 use delays::faults::DelayFault;
+use gauge::count::Count;
+use gauge::early::Early;
 use gauge::gauges::Gauge;
+use gauge::late::Late;
 use gauge::matrix::EdgeMatrix;
 use gauge::semiring::Semiring;
 use network::limit::MAX_SIGNALS;
@@ -37,5 +40,30 @@ impl<G: Gauge + Clone> Tables<G> {
             values: &mut self.values,
         };
         open(board, file, &mut strip)
+    }
+}
+
+/// The tables of a board over each gauge.
+#[derive(Drop)]
+pub struct Boards {
+    pub late: Tables<Late>,
+    pub early: Tables<Early>,
+    pub count: Tables<Count>,
+}
+
+impl Boards {
+    pub fn new(heap: Global) -> Result<Boards, AllocError> {
+        Ok(Boards {
+            late: Tables::new(heap)?,
+            early: Tables::new(heap)?,
+            count: Tables::new(heap)?,
+        })
+    }
+
+    /// Opens each board; a delay table that one refuses, all refuse alike.
+    pub fn open(&mut self, network: &mut Network, file: &[u8]) -> Result<Opened, DelayFault> {
+        self.late.open(network, file)?;
+        self.early.open(network, file)?;
+        self.count.open(network, file)
     }
 }

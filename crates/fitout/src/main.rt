@@ -6,14 +6,10 @@ mod boards;
 mod show;
 
 use arrivals::{show_arrivals, show_clock};
-use boards::Tables;
-use gauge::count::Count;
-use gauge::early::Early;
-use gauge::late::Late;
+use boards::Boards;
 use netlist::read::read;
 use netlist::room::Room;
-use network::network::Network;
-use show::{show_network, show_refusal};
+use show::{Printer, show_refusal};
 use std::{env, fs};
 
 fn main(rt: HostRuntime) -> anyhow::Result<()> {
@@ -23,44 +19,25 @@ fn main(rt: HostRuntime) -> anyhow::Result<()> {
 fn run(rt: &HostRuntime) -> anyhow::Result<()> {
     let netlist = argument(rt, 1, "netlist.blif")?;
     let delays = argument(rt, 2, "delays.tlv")?;
-    let room = Room::new(rt.alloc())?;
-    match read(&netlist, room) {
-        Ok(network) => {
-            show_network(rt, &netlist, &network)?;
-            open_boards(rt, &netlist, network, &delays)
+    let mut network = match read(&netlist, Room::new(rt.alloc())?) {
+        Ok(network) => network,
+        Err(fault) => return Ok(show_refusal(rt, "NETLIST", fault.into())?),
+    };
+    Printer::new(rt, &netlist, &network).show_network()?;
+    let mut boards = Boards::new(rt.alloc())?;
+    match boards.open(&mut network, &delays) {
+        Ok(opened) => {
+            show_clock(rt, opened)?;
+            show_arrivals(Printer::new(rt, &netlist, &network), &boards)?;
         }
-        Err(fault) => Ok(show_refusal(rt, "NETLIST", fault.into())?),
+        Err(fault) => show_refusal(rt, "DELAYS", fault.into())?,
     }
+    Ok(())
 }
 
 /// The file that an argument names, or the one that it stands for when it is left out.
 fn argument(rt: &HostRuntime, index: usize, file: &str) -> anyhow::Result<Vec<u8>> {
-    match env::args(rt)?.nth(index) {
-        Some(path) => Ok(fs::read(rt, path.as_str())?),
-        None => Ok(fs::read(rt, file)?),
-    }
-}
-
-/// Opens a board over each gauge, and prints the clock and the arrivals.
-fn open_boards(
-    rt: &HostRuntime,
-    netlist: &[u8],
-    network: Network,
-    delays: &[u8],
-) -> anyhow::Result<()> {
-    let mut net = network;
-    let mut late: Tables<Late> = Tables::new(rt.alloc())?;
-    let mut early: Tables<Early> = Tables::new(rt.alloc())?;
-    let mut count: Tables<Count> = Tables::new(rt.alloc())?;
-    match late.open(&mut net, delays) {
-        Ok(opened) => show_clock(rt, opened)?,
-        Err(fault) => {
-            show_refusal(rt, "DELAYS", fault.into())?;
-            return Ok(());
-        }
-    }
-    let _ = early.open(&mut net, delays);
-    let _ = count.open(&mut net, delays);
-    show_arrivals(rt, netlist, &net, &late, &early, &count)?;
-    Ok(())
+    let given = env::args(rt)?.nth(index);
+    let path = given.as_deref().unwrap_or(file);
+    Ok(fs::read(rt, path)?)
 }

@@ -2,10 +2,9 @@
 use fault::refusal::Refusal;
 use network::gate::Gate;
 use network::network::Network;
-use network::sense::Sense;
 use network::signal::{Driver, Latch};
 use network::span::Span;
-use std::io;
+use std::{io, str};
 use waiting::list::WaitingList;
 use waiting::strip::BitStrip;
 
@@ -17,115 +16,112 @@ pub fn show_refusal(rt: &HostRuntime, file: &str, refusal: Refusal) -> io::Resul
     println!(rt; "REFUSED {number} {file} {place}: {cause}")
 }
 
-/// The signals by number with what drives them, and then their names by turn.
-pub fn show_network(rt: &HostRuntime, text: &[u8], network: &Network) -> io::Result<()> {
-    let size = network.size();
-    println!(rt; "SIGNALS {size}")?;
-    for signal in 0..size {
-        show_signal(rt, text, network, signal)?;
-    }
-    show_turns(rt, text, network)
+/// A network, with the text that it was read from, which spells its words, and the runtime to print to.
+#[derive(Clone, Copy)]
+pub struct Printer<'a> {
+    pub rt: &'a HostRuntime,
+    text: &'a [u8],
+    pub network: &'a Network,
 }
 
-fn show_signal(rt: &HostRuntime, text: &[u8], network: &Network, signal: usize) -> io::Result<()> {
-    print!(rt; "SIGNAL {signal} ")?;
-    show_name(rt, text, network, signal)?;
-    if network.is_output(signal) {
-        print!(rt; " OUTPUT")?;
+impl<'a> Printer<'a> {
+    pub fn new(rt: &'a HostRuntime, text: &'a [u8], network: &'a Network) -> Printer<'a> {
+        Printer { rt, text, network }
     }
-    if network.is_captured(signal) {
-        print!(rt; " CAPTURED")?;
-    }
-    let Some(driver) = network.driver(signal) else {
-        return println!(rt);
-    };
-    match driver {
-        Driver::Input => println!(rt; " INPUT"),
-        Driver::Latched(latch) => show_latch(rt, text, network, latch),
-        Driver::Gated(gate) => show_gate(rt, text, network, signal, gate),
-        Driver::Undriven => println!(rt),
-    }
-}
 
-fn show_latch(rt: &HostRuntime, text: &[u8], network: &Network, latch: Latch) -> io::Result<()> {
-    print!(rt; " LATCH ")?;
-    show_name(rt, text, network, usize::from(latch.input))?;
-    if let Some((kind, control)) = latch.trigger {
-        print!(rt; " ")?;
-        show_span(rt, text, kind)?;
-        print!(rt; " ")?;
-        show_span(rt, text, control)?;
+    /// The signals by number with what drives them, and then their names by turn.
+    pub fn show_network(self) -> io::Result<()> {
+        let size = self.network.size();
+        println!(self.rt; "SIGNALS {size}")?;
+        for signal in 0..size {
+            self.show_signal(signal)?;
+        }
+        self.show_turns()
     }
-    if let Some(initial) = latch.initial {
-        print!(rt; " ")?;
-        show_span(rt, text, initial)?;
-    }
-    println!(rt)
-}
 
-fn show_gate(
-    rt: &HostRuntime,
-    text: &[u8],
-    network: &Network,
-    signal: usize,
-    gate: Gate,
-) -> io::Result<()> {
-    print!(rt; " GATE")?;
-    for pin in 0..network.pin_count(signal) {
-        if let Some(feeder) = network.get_feeder(signal, pin) {
-            print!(rt; " ")?;
-            show_name(rt, text, network, feeder)?;
-            show_sense(rt, gate.sense(pin))?;
+    fn show_signal(self, signal: usize) -> io::Result<()> {
+        let rt = self.rt;
+        let name = self.name(signal);
+        print!(rt; "SIGNAL {signal} {name}")?;
+        if self.network.is_output(signal) {
+            print!(rt; " OUTPUT")?;
+        }
+        if self.network.is_captured(signal) {
+            print!(rt; " CAPTURED")?;
+        }
+        match self.network.driver(signal) {
+            Some(Driver::Input) => println!(rt; " INPUT"),
+            Some(Driver::Latched(latch)) => self.show_latch(latch),
+            Some(Driver::Gated(gate)) => self.show_gate(signal, gate),
+            Some(Driver::Undriven) | None => println!(rt),
         }
     }
-    println!(rt)
-}
 
-fn show_sense(rt: &HostRuntime, sense: Sense) -> io::Result<()> {
-    match sense {
-        Sense::Positive => print!(rt; " POSITIVE"),
-        Sense::Negative => print!(rt; " NEGATIVE"),
-        Sense::Both => print!(rt; " BOTH"),
-        Sense::Neither => print!(rt; " NEITHER"),
-    }
-}
-
-/// The turns, put on a bit strip by signal and taken off from the least on.
-fn show_turns(rt: &HostRuntime, text: &[u8], network: &Network) -> io::Result<()> {
-    let mut strip = BitStrip::new();
-    for signal in 0..network.size() {
-        if let Some(turn) = network.get_turn(signal) {
-            let _ = strip.put(turn);
+    fn show_latch(self, latch: Latch) -> io::Result<()> {
+        let rt = self.rt;
+        let input = self.name(usize::from(latch.input));
+        print!(rt; " LATCH {input}")?;
+        if let Some((kind, control)) = latch.trigger {
+            let kind = self.word(kind);
+            let control = self.word(control);
+            print!(rt; " {kind} {control}")?;
         }
+        if let Some(initial) = latch.initial {
+            let initial = self.word(initial);
+            print!(rt; " {initial}")?;
+        }
+        println!(rt)
     }
-    print!(rt; "TURNS")?;
-    for _ in 0..network.size() {
-        if let Some(turn) = strip.take() {
-            if let Some(signal) = network.get_signal_at(turn) {
-                print!(rt; " ")?;
-                show_name(rt, text, network, signal)?;
+
+    fn show_gate(self, signal: usize, gate: Gate) -> io::Result<()> {
+        let rt = self.rt;
+        print!(rt; " GATE")?;
+        for pin in 0..self.network.pin_count(signal) {
+            if let Some(feeder) = self.network.get_feeder(signal, pin) {
+                let name = self.name(feeder);
+                let sense = gate.sense(pin);
+                print!(rt; " {name} {sense}")?;
             }
         }
+        println!(rt)
     }
-    println!(rt)
-}
 
-pub fn show_name(
-    rt: &HostRuntime,
-    text: &[u8],
-    network: &Network,
-    signal: usize,
-) -> io::Result<()> {
-    match network.name(signal) {
-        Some(name) => show_span(rt, text, name),
-        None => Ok(()),
+    /// The turns, put on a bit strip by signal and taken off from the least on.
+    fn show_turns(self) -> io::Result<()> {
+        let rt = self.rt;
+        let mut strip = BitStrip::new();
+        for signal in 0..self.network.size() {
+            if let Some(turn) = self.network.get_turn(signal) {
+                let _ = strip.put(turn);
+            }
+        }
+        print!(rt; "TURNS")?;
+        for _ in 0..self.network.size() {
+            if let Some(turn) = strip.take()
+                && let Some(signal) = self.network.get_signal_at(turn)
+            {
+                let name = self.name(signal);
+                print!(rt; " {name}")?;
+            }
+        }
+        println!(rt)
     }
-}
 
-fn show_span(rt: &HostRuntime, text: &[u8], span: Span) -> io::Result<()> {
-    for byte in text.iter().skip(span.at).take(span.len) {
-        let letter = char::from(*byte);
-        print!(rt; "{letter}")?;
+    /// The name of a signal, or nothing where there is no such signal.
+    pub fn name(self, signal: usize) -> &'a str {
+        match self.network.name(signal) {
+            Some(name) => self.word(name),
+            None => "",
+        }
     }
-    Ok(())
+
+    /// A word of the text.
+    fn word(self, span: Span) -> &'a str {
+        let text = self.text;
+        let bytes = text
+            .get(span.at..)
+            .and_then(|rest| rest.get(..span.len))
+            .unwrap_or_default();
+        str::from_utf8(bytes).unwrap_or_default()
+    }
 }

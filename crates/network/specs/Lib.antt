@@ -13,3 +13,4 @@ pub mod Tally
 pub mod Truth
 pub mod Turns
 pub mod Wiring
+pub mod Words

@@ -4,11 +4,12 @@ ghost use Rattle.opening.specs.Boards.{view_of, is_short, room_in};
 use fault::room_fault::RoomFault;
 use network::network::Network;
 
-/// Takes a board apart and puts it together again, so that it can be handed on.
+/// Hands a board on to a call: takes it apart and puts it together again, under the same name, for that call.
 // Handed on as it is, it gets no proof: the goal at the return speaks of `board-2-1.given`, which no promise of the callee names.
+// A call at a block's end is not covered either, so its answer is bound first.
 #[macro_export]
 macro_rules! lend {
-    ($board:ident) => {
+    ($board:ident => $call:expr) => {{
         let $crate::board::Board {
             network,
             starts,
@@ -21,7 +22,9 @@ macro_rules! lend {
             weights,
             values,
         };
-    };
+        let answer = $call;
+        answer
+    }};
 }
 
 /// A network with three tables that the caller keeps: starts and values with a cell for each signal, and weights with cell 4 × signal + pin.

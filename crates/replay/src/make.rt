@@ -27,14 +27,8 @@ pub fn make_call<G: Gauge, W: WaitingList>(
     ensures empty { Empty (W.WaitingList.waits list.new) }
     ensures limit { W.WaitingList.limit list.new ≡ W.WaitingList.limit list.old }
 {
-    lend!(board);
-    let edit = match call {
-        Call::Edit(edit) => edit,
-        Call::Script(file) => {
-            let answer = run_script(board, list, strip, file);
-            return answer;
-        }
-    };
-    let count = apply(board, list, strip, edit)?;
-    Ok(count)
+    match call {
+        Call::Edit(edit) => Ok(lend!(board => apply(board, list, strip, edit))?),
+        Call::Script(file) => lend!(board => run_script(board, list, strip, file)),
+    }
 }

@@ -34,7 +34,5 @@ pub fn run_script<G: Gauge, W: WaitingList>(
     let marks = Marks { cells: strip };
     list.clear();
     check_script(&board, marks.cells.len(), list.limit(), file)?;
-    lend!(board);
-    let answer = take_fields(board, list, marks.cells, file);
-    answer
+    lend!(board => take_fields(board, list, marks.cells, file))
 }

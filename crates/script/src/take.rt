@@ -38,6 +38,7 @@ pub(crate) fn take_fields<G: Gauge, W: WaitingList>(
     let mut total = 0;
     for field in Fields::<Edit>::new(file) {
         let edit = field.said?;
+        // `lend!` takes its board, so that at each turn the parts are lent by hand
         let whole = Board {
             network: &mut *network,
             starts: &mut *starts,

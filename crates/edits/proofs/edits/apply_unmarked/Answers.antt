@@ -1,23 +1,13 @@
-use Rattle.std.proofs.Common.{ℕ}
-use Rattle.opening.specs.Boards.{View, view_of}
-use Rattle.board.specs.Steps.{Stepped}
+use Rattle.opening.specs.Boards.{view_of}
 use Rattle.board.proofs.Following.{follows}
 use Rattle.edits.proofs.Passing.{any_strip}
 use Rattle.edits.proofs.edits.apply_unmarked.Goals as goal
 
-pub returns : goal.returns
-returns g c =
-    let r = g.G.Semiring.ops in
-    let delays = g.G.Gauge.delays in
-    let lim = g.W.WaitingList.limit c.args.list.now in
-    let x = view_of c.args.board in
-    let z = c.apply_at-answer.new.board in
-    let y : View _ = record { network = z.0; starts = z.1.0; weights = z.1.1.0; values = z.1.1.1.0 } in
-    let any : (strip : ℕ) → Stepped r delays strip lim 0 c.args.edit x y c.apply_at-answer.result =
-    λ strip. any_strip r delays x y 0 strip lim 0 c.args.edit c.apply_at-answer.result c.requires c.apply_at-answer.ensures.stepped in
-    record {
-      stepped = any;
-      follows = λ strip. follows r delays g.met.G.Semiring.laws strip lim 0 c.args.edit x y c.apply_at-answer.result (any strip);
-      empty = c.apply_at-answer.ensures.empty;
-      limit = c.apply_at-answer.ensures.limit;
-    }
+pub returns-clause-stepped : goal.returns-clause-stepped
+returns-clause-stepped g c strip =
+    let z = c.apply_at.new.board in
+    any_strip g.G.Semiring.ops g.G.Gauge.delays (view_of c.args.board) (record { network = z.0; starts = z.1.0; weights = z.1.1.0; values = z.1.1.1.0 })
+    0 strip (g.W.WaitingList.limit c.args.list.now) 0 c.args.edit c.apply_at.result c.requires c.apply_at.ensures.stepped
+
+pub returns-clause-follows : goal.returns-clause-follows
+returns-clause-follows g c strip = follows _ _ g.met.G.Semiring.laws _ _ _ _ _ _ _ (returns-clause-stepped g c strip)
