@@ -10,7 +10,8 @@ use Rattle.gauge.specs.Semirings.{Ops}
 use Rattle.gauge.specs.declared.matrix.EdgeMatrix.{EdgeMatrix}
 use Rattle.fields.specs.declared.edit.Edit.{Edit}
 use Rattle.fields.specs.declared.faults.FieldFault.{FieldFault}
-use Rattle.fields.specs.Fields.{size_of, file_limit}
+use Rattle.fault.specs.Limit.{max_bytes}
+use Rattle.fields.specs.Fields.{size_of}
 use Rattle.fields.specs.Forms.{edit_form}
 use Rattle.fields.specs.Lists.{placed, fields}
 use Rattle.fields.specs.declared.read.Placed.{Placed}
@@ -48,9 +49,9 @@ call_fault (Err b) d h = let same : d ≡ fault.Edit b = cc in (b, refl, same)
 
 module _ {G : Type 0} (r : Ops G) (delays : ℕ → ℕ → G) (l : Lent) where
   -- a script is judged without fault: the room suffices, and the file is not too long
-  script_none : (o : Option EditFault) (file : List ℕ) → script_fault r delays l o file ≡ None → (o ≡ None) × (ltb file_limit (length file) ≡ false)
+  script_none : (o : Option EditFault) (file : List ℕ) → script_fault r delays l o file ≡ None → (o ≡ None) × (ltb max_bytes (length file) ≡ false)
   script_none (Some d) file h = absurd (none-some _ (sym h))
-  script_none None file h = (refl, (none_parts (ltb file_limit (length file)) fault.FileTooLong None h).0)
+  script_none None file h = (refl, (none_parts (ltb max_bytes (length file)) fault.FileTooLong None h).0)
 
   module _ (book : Book (EdgeMatrix G)) (file : List ℕ) (judged : judge_script r delays l book file ≡ None) where
     pub script_room : room_fault true l (length book) ≡ None
@@ -59,8 +60,8 @@ module _ {G : Type 0} (r : Ops G) (delays : ℕ → ℕ → G) (l : Lent) where
     -- no script of its first bytes has a fault either
     pub script_take : (n : ℕ) → judge_script r delays l book (take n file) ≡ None
     script_take n =
-        let short : length file ≤ file_limit = ltb-false file_limit (length file) (script_none (room_fault true l (length book)) file judged).1 in
-        let shorter : length (take n file) ≤ file_limit = simp length-take (omega arith) in
+        let short : length file ≤ max_bytes = ltb-false max_bytes (length file) (script_none (room_fault true l (length book)) file judged).1 in
+        let shorter : length (take n file) ≤ max_bytes = simp length-take (omega arith) in
         ap (λ (o : Option EditFault). script_fault r delays l o (take n file)) script_room ∙ cond-false _ _ _ (le-ltb _ _ shorter)
 
   -- a field is refused at its place

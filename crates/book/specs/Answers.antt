@@ -7,7 +7,7 @@ use Rattle.paths.specs.Sums.{path_sum}
 use Rattle.paths.specs.Edits.{edit_count}
 use Rattle.fields.specs.declared.edit.Edit.{Edit}
 use Rattle.fields.specs.declared.faults.FieldFault.{FieldFault}
-use Rattle.fields.specs.Fields.{file_limit}
+use Rattle.fault.specs.Limit.{max_bytes}
 use Rattle.fields.specs.Lists.{fields}
 use Rattle.fields.specs.declared.read.Placed.{Placed}
 use Rattle.fields.specs.Says.{edit_of}
@@ -85,7 +85,7 @@ module _ {G : Type 0} (r : Ops G) (delays : ℕ → ℕ → G) where
 
     -- why a script is refused before its first field: as an edit that marks, then for its length
     abbrev pub length_fault : List ℕ → Option ScriptFault
-    length_fault file = cond (nat_lt file_limit (length file)) (Some fault.FileTooLong) None
+    length_fault file = cond (nat_lt max_bytes (length file)) (Some fault.FileTooLong) None
 
     abbrev pub script_fault : Option EditFault → List ℕ → Option ScriptFault
     script_fault (Some d) file = Some (fault.Edit d)

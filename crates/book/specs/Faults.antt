@@ -6,7 +6,7 @@ use Rattle.fault.specs.declared.refusal.Refusal.{Refusal}
 use Rattle.fault.specs.declared.room_fault.RoomFault.{RoomFault}
 use Rattle.fault.specs.declared.room_fault.RoomFault.TheVariants as room
 use Rattle.fields.specs.Faults as field
-use Rattle.fields.specs.Fields.{file_limit}
+use Rattle.fault.specs.Limit.{max_bytes}
 use Rattle.book.specs.declared.edit_fault.EditFault.{EditFault}
 use Rattle.book.specs.declared.edit_fault.EditFault.TheVariants.{TooShort, LowLimit, NoSuchPart, EarlyAboveLate, ClosesCycle}
 use Rattle.book.specs.declared.script_fault.ScriptFault.{ScriptFault}
@@ -31,6 +31,6 @@ edit_refusal (ClosesCycle at) = refusal cause.Cycle at
 
 -- a file that is too long is refused at the first byte too many
 abbrev pub script_refusal : ScriptFault → Refusal
-script_refusal FileTooLong = refusal cause.FileTooLong file_limit
+script_refusal FileTooLong = refusal cause.FileTooLong max_bytes
 script_refusal (Field d) = field.refusal_of d
 script_refusal (Edit d) = edit_refusal d

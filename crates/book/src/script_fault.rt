@@ -7,7 +7,7 @@ use fault::cause::Cause;
 use fault::refusal::Refusal;
 use fault::room_fault::RoomFault;
 use fields::faults::FieldFault;
-use fields::field::FILE_LIMIT;
+use fault::limit::MAX_BYTES;
 
 /// Why a call is refused. What a field lacks and why an edit is refused are kept whole.
 #[derive(Clone, Copy, PartialEq, Eq, Debug)]
@@ -49,7 +49,7 @@ impl From<ScriptFault> for Refusal {
         match fault {
             ScriptFault::FileTooLong => Refusal {
                 cause: Cause::FileTooLong,
-                place: FILE_LIMIT,
+                place: MAX_BYTES,
             },
             ScriptFault::Field(fault) => fault.into(),
             ScriptFault::Edit(fault) => fault.into(),

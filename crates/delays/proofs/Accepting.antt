@@ -6,7 +6,7 @@ use Rattle.std.proofs.lemmas.Bool.{eqb-true, and_parts, cases_Bool, cond-true, c
 use Rattle.fields.specs.declared.entry.Entry.{Entry}
 use Rattle.fields.specs.declared.entry.Entry.TheVariants as entry
 use Rattle.fields.specs.declared.faults.FieldFault.{FieldFault}
-use Rattle.fields.specs.Fields.{file_limit}
+use Rattle.fault.specs.Limit.{max_bytes}
 use Rattle.fields.specs.Lists.{fields}
 use Rattle.fields.specs.declared.read.Placed.{Placed}
 use Rattle.fields.specs.Says.{entry_of}
@@ -107,4 +107,4 @@ cond_ok : {A : Type 0} (b : Bool) (r : Result A DelayFault) (d : DelayFault) →
 cond_ok b r d h = grind arith
 
 pub accepted_well_named : AcceptedWellNamed
-accepted_well_named outline file h = sound outline (fields entry_of file) (cond_ok (ltb file_limit (length file)) _ _ h)
+accepted_well_named outline file h = sound outline (fields entry_of file) (cond_ok (ltb max_bytes (length file)) _ _ h)

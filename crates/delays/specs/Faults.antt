@@ -6,7 +6,7 @@ use Rattle.fault.specs.declared.refusal.Refusal.{Refusal}
 use Rattle.fault.specs.declared.room_fault.RoomFault.{RoomFault}
 use Rattle.fault.specs.declared.room_fault.RoomFault.TheVariants as room
 use Rattle.fields.specs.Faults as field
-use Rattle.fields.specs.Fields.{file_limit}
+use Rattle.fault.specs.Limit.{max_bytes}
 use Rattle.delays.specs.declared.faults.DelayFault.{DelayFault}
 use Rattle.delays.specs.declared.faults.DelayFault.TheVariants.{TooShort, LowLimit, FileTooLong, Empty, Field, NoSuchPart, EarlyAboveLate, NamedTwice}
 
@@ -23,7 +23,7 @@ refusal why at = record { cause = why; place = at }
 abbrev pub refusal_of : DelayFault → Refusal
 refusal_of TooShort = refusal cause.TooShort 0
 refusal_of LowLimit = refusal cause.LowLimit 0
-refusal_of FileTooLong = refusal cause.FileTooLong file_limit
+refusal_of FileTooLong = refusal cause.FileTooLong max_bytes
 refusal_of Empty = refusal cause.BadField 0
 refusal_of (Field d) = field.refusal_of d
 refusal_of (NoSuchPart at) = refusal cause.NoSuchPart at

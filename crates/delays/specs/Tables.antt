@@ -7,7 +7,7 @@ use Rattle.fields.specs.declared.entry.Entry.{Entry}
 use Rattle.fields.specs.declared.entry.Entry.TheVariants as entry
 use Rattle.fields.specs.declared.faults.FieldFault.{FieldFault}
 use Rattle.fields.specs.declared.faults.FieldFault.TheVariants.{Misplaced}
-use Rattle.fields.specs.Fields.{file_limit}
+use Rattle.fault.specs.Limit.{max_bytes}
 use Rattle.fields.specs.Lists.{fields}
 use Rattle.fields.specs.declared.read.Placed.{Placed}
 use Rattle.fields.specs.Says.{entry_of}
@@ -74,7 +74,7 @@ judged outline (f ∷ fs) = clock_then f.at f.said (first_fault outline [] fs)
 
 -- what a file says as a delay table: its clock, or why it is refused
 abbrev pub table_of : Outline → List ℕ → Result Clock DelayFault
-table_of outline file = cond (nat_lt file_limit (length file)) (Err FileTooLong) (judged outline (fields entry_of file))
+table_of outline file = cond (nat_lt max_bytes (length file)) (Err FileTooLong) (judged outline (fields entry_of file))
 
 -- the fields that name a part
 abbrev pub naming : List (Placed Entry) → Part → List (Placed Entry)

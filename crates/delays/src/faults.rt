@@ -6,7 +6,7 @@ use fault::cause::Cause;
 use fault::refusal::Refusal;
 use fault::room_fault::RoomFault;
 use fields::faults::FieldFault;
-use fields::field::FILE_LIMIT;
+use fault::limit::MAX_BYTES;
 
 /// Why a board is not opened with a delay table; `at` is the place of a field's tag.
 #[derive(Clone, Copy, PartialEq, Eq, Debug)]
@@ -53,7 +53,7 @@ impl From<DelayFault> for Refusal {
         let (cause, place) = match fault {
             DelayFault::TooShort => (Cause::TooShort, 0),
             DelayFault::LowLimit => (Cause::LowLimit, 0),
-            DelayFault::FileTooLong => (Cause::FileTooLong, FILE_LIMIT),
+            DelayFault::FileTooLong => (Cause::FileTooLong, MAX_BYTES),
             DelayFault::Empty => (Cause::BadField, 0),
             DelayFault::Field(fault) => return fault.into(),
             DelayFault::NoSuchPart { at } => (Cause::NoSuchPart, at),

@@ -41,10 +41,7 @@ fn times_cross(edit: Edit) -> bool
 fn uses_strip(edit: Edit) -> bool
     ensures { result ≡ marks edit }
 {
-    match edit {
-        Edit::Rewire { .. } => true,
-        Edit::SetDelay { .. } | Edit::SetStart { .. } | Edit::Cut { .. } => false,
-    }
+    matches!(edit, Edit::Rewire { .. })
 }
 
 // Room in the tables and the strip first, then the limit, then what the edit names, then its times.

@@ -2,5 +2,6 @@
 #![tactic(auto)]
 
 pub mod cause;
+pub mod limit;
 pub mod refusal;
 pub mod room_fault;

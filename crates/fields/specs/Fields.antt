@@ -5,10 +5,6 @@ use Rattle.fields.specs.declared.faults.FieldFault.{FieldFault}
 use Rattle.fields.specs.declared.faults.FieldFault.TheVariants.{UnknownTag, CutOff, Misplaced}
 use Rattle.fields.specs.declared.field.Field.{Field}
 
--- the most bytes that a file may have
-abbrev pub file_limit : ℕ
-file_limit = 32768
-
 -- a field as bytes, with the place of its tag
 pub record Content : Type 0 where
   pub at : ℕ

@@ -1,10 +1,9 @@
 ghost use Rattle.std.specs.Prelude.{◌≡◌, length, nat_lt};
-ghost use Rattle.fields.specs.Fields.{file_limit, field_at, field_from, seen, seen_next, stray_fault};
+ghost use Rattle.fault.specs.Limit.{max_bytes};
+ghost use Rattle.fields.specs.Fields.{field_at, field_from, seen, seen_next, stray_fault};
 
 use crate::faults::FieldFault;
-
-/// The most bytes that a file may have.
-pub const FILE_LIMIT: usize = 32_768;
+use fault::limit::MAX_BYTES;
 
 /// A field of a file: its tag, its value, and the place of the tag.
 #[derive(Clone, Copy)]
@@ -16,9 +15,9 @@ pub struct Field<'a> {
 
 /// Whether a file has more bytes than it may have.
 pub fn too_long(file: &[u8]) -> bool
-    ensures { result ≡ nat_lt file_limit (length file.now) }
+    ensures { result ≡ nat_lt max_bytes (length file.now) }
 {
-    file.len() > FILE_LIMIT
+    file.len() > MAX_BYTES
 }
 
 /// Opens the field at the front of the bytes that a file has from the place `at` on.

@@ -16,7 +16,7 @@ use Rattle.netlist.specs.declared.stage.Stage.{Stage}
 use Rattle.netlist.specs.declared.stage.Stage.TheVariants.{Before, Body, Rows, After}
 use Rattle.netlist.specs.Effects.{state, words_effect}
 use Rattle.netlist.specs.Faults.{State, faults_of, least_of}
-use Rattle.netlist.specs.Limit.{max_bytes}
+use Rattle.fault.specs.Limit.{max_bytes}
 use Rattle.netlist.specs.Reading.{Reading, refused, ongoing, judged, step, step_on, read_lines, undriven_at, Verdict, refuses, netlist, all_driven, closing, finished, read}
 use Rattle.netlist.specs.Signals.{Signal, is_undriven, no_signal}
 use Rattle.netlist.specs.Statements.{statement_of}

@@ -69,13 +69,11 @@ module _ (text : List ℕ) where
     pub lowest_on : (s : ℕ) → net.LowestOnCycle xs s → LowestOnCycle (signals_on text xs) s
     lowest_on s l = record { cyclic = reached of_net l.cyclic; lowest = λ c h o. l.lowest c h (reached to_net o) }
 
--- a network stands as it is, and a cycle is refused where its lowest signal is named; P says what the refusals are
-pub joined : (text : List ℕ) (xs : List Signal) (v : Result Network Cyclic) (r : Result Network NetlistFault) (P : Cyclic → NetlistFault → Type 0) → ((y : Cyclic) (f : NetlistFault) → P y f → f ≡ OfNetlist (fault Cycle y.name.at)) → Built xs v → MatchResult v (λ x. r ≡ Ok x) (λ y. IsErrAnd r (P y)) → Closes (netlist (signals_on text xs)) (network_on text r)
-joined text xs (Ok net) r P gives b e =
-    subst (λ (q : Result Network NetlistFault). Closes (netlist (signals_on text xs)) (network_on text q)) (sym e) (ap (signals_on text) b.1, acyclic_on text xs b.0)
-joined text xs (Err y) (Ok net) P gives b e = absurd e
-joined text xs (Err y) (Err f) P gives b e = (
-  y.lowest,
-  lowest_on text xs y.lowest b.0,
-  ap refusal_of (gives y f e) ∙ ap (fault Cycle) (ap (λ (n : Span). n.at) b.1 ∙ sym (place_on text xs y.lowest)),
-)
+-- a network stands as it is
+pub stands : (text : List ℕ) (xs : List Signal) (net : Network) → Built xs (Ok net) → Closes (netlist (signals_on text xs)) (network_on text (Ok net))
+stands text xs net b = (ap (signals_on text) b.1, acyclic_on text xs b.0)
+
+-- a cycle is refused where its lowest signal is named
+pub cycle_refused : (text : List ℕ) (xs : List Signal) (y : Cyclic) → Built xs (Err y) → Closes (netlist (signals_on text xs)) (network_on text (Err (OfNetlist (fault Cycle y.name.at))))
+cycle_refused text xs y b =
+    (y.lowest, lowest_on text xs y.lowest b.0, ap (fault Cycle) (ap (λ (n : Span). n.at) b.1 ∙ sym (place_on text xs y.lowest)))

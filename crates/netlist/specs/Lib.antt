@@ -1,4 +1,3 @@
-pub mod Limit
 pub mod Signals
 pub mod Statements
 pub mod Faults

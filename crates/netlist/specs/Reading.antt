@@ -5,7 +5,7 @@ use Rattle.fault.specs.declared.refusal.Refusal.{Refusal}
 use Rattle.text.specs.Text.{Piece, words, lines}
 use Rattle.netlist.specs.declared.stage.Stage.{Stage}
 use Rattle.netlist.specs.declared.stage.Stage.TheVariants.{Before, Body, Rows, After}
-use Rattle.netlist.specs.Limit.{max_bytes}
+use Rattle.fault.specs.Limit.{max_bytes}
 use Rattle.netlist.specs.Signals.{Signal, is_undriven}
 use Rattle.netlist.specs.Faults.{State, fault, faults_of, least_of}
 use Rattle.netlist.specs.Effects.{state, words_effect}

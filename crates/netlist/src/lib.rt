@@ -5,7 +5,6 @@ mod change;
 pub mod draft;
 pub mod examples;
 pub mod laws;
-pub mod limit;
 mod line_words;
 mod lines;
 mod names;

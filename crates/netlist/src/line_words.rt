@@ -1,10 +1,10 @@
 // The words of a line.
 ghost use Rattle.std.specs.Prelude.{◌≡◌, ◌≤◌, [], length, drop, IfOk, vec_capacity};
 ghost use Rattle.text.specs.Text.{words};
-ghost use Rattle.netlist.specs.Limit.{max_bytes};
+ghost use Rattle.fault.specs.Limit.{max_bytes};
 ghost use Rattle.netlist.specs.Views.{pieces};
 
-use crate::limit::MAX_BYTES;
+use fault::limit::MAX_BYTES;
 use network::span::Span;
 use std::alloc::{AllocError, Global};
 use text::scan::next_word;

@@ -3,7 +3,7 @@ ghost use Rattle.std.specs.Prelude.{◌≡◌, ◌+◌, ◌-◌, ◌≤◌, not,
 ghost use Rattle.std.specs.List.{prefix_len};
 ghost use Rattle.text.specs.Text.{piece, newline};
 ghost use Rattle.netlist.specs.Statements.{command_of};
-ghost use Rattle.netlist.specs.Limit.{max_bytes};
+ghost use Rattle.fault.specs.Limit.{max_bytes};
 ghost use Rattle.netlist.specs.Reading as reading;
 ghost use Rattle.netlist.specs.Views.{pieces};
 ghost use Rattle.netlist.specs.Outcomes.{state_on, reading_on, first_judged, words_judged};

@@ -1,10 +1,12 @@
 ghost use Rattle.std.specs.Prelude.{◌≡◌};
+ghost use Rattle.fault.specs.declared.cause.Cause.TheVariants.{Cycle};
 ghost use Rattle.netlist.specs.Faults as faults;
 ghost use Rattle.netlist.specs.declared.netlist_fault.NetlistFault.{NetlistFault};
 ghost use Rattle.netlist.specs.Outcomes.{refusal_of};
 
 use fault::cause::Cause;
 use fault::refusal::Refusal;
+use network::cyclic::Cyclic;
 use text::word_fault::WordFault;
 
 /// Why a netlist is refused. What is wrong with a word is kept whole.
@@ -20,6 +22,15 @@ impl From<WordFault> for NetlistFault {
 
     fn from(fault: WordFault) -> NetlistFault {
         NetlistFault::OfWord(fault)
+    }
+}
+
+/// A cycle is refused where its lowest signal is first named.
+impl From<Cyclic> for NetlistFault {
+    ghost from_gives = { λ c r. r ≡ NetlistFault.OfNetlist (faults.fault Cycle c.name.at) };
+
+    fn from(cyclic: Cyclic) -> NetlistFault {
+        NetlistFault::new(Cause::Cycle, cyclic.name.at)
     }
 }
 

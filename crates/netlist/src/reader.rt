@@ -2,7 +2,7 @@
 ghost use Rattle.std.specs.Prelude.{◌≡◌, ◌≤◌, length, IfOk, fold};
 ghost use Rattle.network.specs.Wiring.{Driven, Wired, LatchesWired};
 ghost use Rattle.text.specs.Text.{lines};
-ghost use Rattle.netlist.specs.Limit.{max_bytes};
+ghost use Rattle.fault.specs.Limit.{max_bytes};
 ghost use Rattle.netlist.specs.Reading as reading;
 ghost use Rattle.netlist.specs.Reading.{step_on, ongoing, closing};
 ghost use Rattle.netlist.specs.Views.{signals_in};
@@ -10,13 +10,13 @@ ghost use Rattle.netlist.specs.Outcomes.{state_on, reading_on};
 ghost use Rattle.netlist.specs.Verdicts.{closed_on, verdict_on};
 
 use crate::draft::Draft;
-use crate::limit::MAX_BYTES;
 use crate::line_words::LineWords;
 use crate::netlist_fault::NetlistFault;
 use crate::room::Room;
 use crate::stage::Stage;
 use crate::state::State;
 use fault::cause::Cause;
+use fault::limit::MAX_BYTES;
 use text::scan::line_end;
 
 impl State {

@@ -9,7 +9,7 @@ use Rattle.gauge.specs.declared.matrix.EdgeMatrix.{EdgeMatrix}
 use Rattle.fault.specs.declared.room_fault.RoomFault.{RoomFault}
 use Rattle.fault.specs.declared.room_fault.RoomFault.TheVariants as rooms
 use Rattle.network.specs.Net.{size}
-use Rattle.fields.specs.Fields.{file_limit}
+use Rattle.fault.specs.Limit.{max_bytes}
 use Rattle.opening.specs.Boards.{View, is_short, room_in}
 use Rattle.book.specs.declared.edit_fault.EditFault.{EditFault}
 use Rattle.book.specs.declared.edit_fault.EditFault.TheVariants.{TooShort, LowLimit}
@@ -47,7 +47,7 @@ module _ {G : Type 0} (r : Ops G) (delays : ℕ → ℕ → G) (x : View (EdgeMa
   room_refused d a h is = is ∙ sym (ap (λ (o : Option ScriptFault). unless o (tt {0})) (by_room (Some (no_room d)) (a_fault room (no_room d) (tt {0}) (room_told (Err d) h))))
 
   -- room, and then the length
-  pub length_judged : Ok (tt {0}) ≡ room_in x (Some strip) limit → (b : Bool) → b ≡ ltb file_limit (length file)
+  pub length_judged : Ok (tt {0}) ≡ room_in x (Some strip) limit → (b : Bool) → b ≡ ltb max_bytes (length file)
       → cond b (Err fault.FileTooLong) (Ok (tt {0})) ≡ unless (judge_script r delays (lent_of x strip limit) (book_of (edge_ops r) x) file) (tt {0})
   length_judged h b is =
       by_length b ∙ ap (λ (c : Bool). unless (cond c (Some fault.FileTooLong) None) (tt {0})) is
@@ -59,13 +59,13 @@ module _ {G : Type 0} (r : Ops G) (delays : ℕ → ℕ → G) (x : View (EdgeMa
 
 -- a script that is not refused before its first field is not too long
 pub not_long : {G : Type 0} (r : Ops G) (delays : ℕ → ℕ → G) (x : View (EdgeMatrix G)) (strip limit : ℕ) (file : List ℕ)
-    → judge_script r delays (lent_of x strip limit) (book_of (edge_ops r) x) file ≡ None → length file ≤ file_limit
+    → judge_script r delays (lent_of x strip limit) (book_of (edge_ops r) x) file ≡ None → length file ≤ max_bytes
 not_long r delays x strip limit file h = by_room (room_fault true (lent_of x strip limit) (length (book_of (edge_ops r) x))) h
   where
     by_length : (b : Bool) → cond b (Some fault.FileTooLong) None ≡ None → b ≡ false
     by_length true e = absurd (none-some _ (sym e))
     by_length false e = refl
 
-    by_room : (o : Option EditFault) → script_fault r delays (lent_of x strip limit) o file ≡ None → length file ≤ file_limit
-    by_room None e = ltb-false file_limit (length file) (by_length (ltb file_limit (length file)) e)
+    by_room : (o : Option EditFault) → script_fault r delays (lent_of x strip limit) o file ≡ None → length file ≤ max_bytes
+    by_room None e = ltb-false max_bytes (length file) (by_length (ltb max_bytes (length file)) e)
     by_room (Some d) e = absurd (none-some _ (sym e))

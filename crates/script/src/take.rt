@@ -1,7 +1,7 @@
 // Takes the fields of a script in order.
 ghost use Rattle.std.specs.Prelude.{◌≡◌, ◌≤◌, length};
 ghost use Rattle.waiting.specs.Turns.{Empty};
-ghost use Rattle.fields.specs.Fields.{file_limit};
+ghost use Rattle.fault.specs.Limit.{max_bytes};
 ghost use Rattle.fields.specs.Lists.{fields};
 ghost use Rattle.fields.specs.Says.{edit_of};
 ghost use Rattle.opening.specs.Boards.{view_of, view_at};
@@ -23,7 +23,7 @@ pub(crate) fn take_fields<G: Gauge, W: WaitingList>(
     strip: &mut [u8],
     file: &[u8],
 ) -> Result<usize, ScriptFault>
-    requires short { length file.now ≤ file_limit }
+    requires short { length file.now ≤ max_bytes }
     requires empty { Empty (W.WaitingList.waits list.old) }
     ensures taken { Taken G.Semiring.ops G.Gauge.delays (length strip.old) (W.WaitingList.limit list.old) (fields edit_of file.now) 0 (view_of board.entry) (view_at board.exit) result }
     ensures empty { Empty (W.WaitingList.waits list.new) }

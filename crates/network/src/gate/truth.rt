@@ -16,9 +16,7 @@ impl Gate {
     pub fn value(&self, setting: usize) -> bool
         ensures { result ≡ truth self.now setting }
     {
-        match self.last_word {
-            Some(word) => has_bit(usize::from(self.matched), setting) == word,
-            None => false,
-        }
+        self.last_word
+            .is_some_and(|word| has_bit(usize::from(self.matched), setting) == word)
     }
 }

@@ -1,4 +1,4 @@
--- How many bytes a netlist's file may have.
+-- How many bytes a file may have: a netlist, a delay table or a script.
 use Rattle.std.specs.Prelude.{ℕ}
 
 abbrev pub max_bytes : ℕ
