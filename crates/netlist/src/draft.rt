@@ -1,6 +1,6 @@
 ghost use Rattle.std.specs.Prelude.{◌≡◌, ◌≤◌, vec_len};
 ghost use Rattle.network.specs.Limit.{max_signals};
-ghost use Rattle.network.specs.Turns.{count_of};
+ghost use Rattle.network.specs.Turns.{count_of, HasRoom};
 
 use network::signal::Signal;
 use network::turns::Turns;
@@ -12,4 +12,5 @@ pub struct Draft {
     pub turns: Turns,
     ghost few: { vec_len signals ≤ max_signals },
     ghost unturned: { count_of turns ≡ 0 },
+    ghost room: { HasRoom max_signals turns },
 }

@@ -1,5 +1,6 @@
 ghost use Rattle.std.specs.Prelude.{◌≡◌};
-ghost use Rattle.network.specs.Turns.{count_of};
+ghost use Rattle.network.specs.Limit.{max_signals};
+ghost use Rattle.network.specs.Turns.{count_of, HasRoom};
 
 use crate::line_words::LineWords;
 use crate::signals::Signals;
@@ -13,6 +14,7 @@ pub struct Room {
     pub(crate) words: LineWords,
     pub(crate) turns: Turns,
     ghost unturned: { count_of turns ≡ 0 },
+    ghost room: { HasRoom max_signals turns },
 }
 
 impl Room {

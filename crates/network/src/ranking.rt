@@ -2,7 +2,7 @@
 ghost use Rattle.std.specs.Prelude.{◌≡◌, ◌+◌, ◌<◌, ◌≤◌, true, false, length, MatchResult};
 ghost use Rattle.network.specs.Ranking.{waits as waiting, Ranked, Ready};
 ghost use Rattle.network.specs.Reach.{LowestOnCycle};
-ghost use Rattle.network.specs.Turns.{count_of, turns_of, order_of};
+ghost use Rattle.network.specs.Turns.{count_of, turns_of, order_of, HasRoom};
 
 use crate::turns::Turns;
 use crate::wires::Wires;
@@ -27,6 +27,7 @@ impl Wires<'_> {
 
     // Orders the turns so that every wire climbs, or answers the lowest signal on a cycle.
     pub(crate) fn rank(self, turns: &mut Turns) -> Result<(), usize>
+        requires { HasRoom (length self.signals.now) turns.old }
         ensures { MatchResult result (λ _. Ranked self.entry.signals.now turns.new (length self.entry.signals.now)) (λ s. LowestOnCycle self.entry.signals.now s × (s < length self.entry.signals.now)) }
     {
         turns.start(self.signals.len());

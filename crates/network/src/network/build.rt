@@ -2,6 +2,7 @@
 ghost use Rattle.std.specs.Prelude.{◌≤◌, length};
 ghost use Rattle.network.specs.Build.{Built};
 ghost use Rattle.network.specs.Limit.{max_signals};
+ghost use Rattle.network.specs.Turns.{HasRoom};
 ghost use Rattle.network.specs.Wiring.{Driven, Wired, LatchesWired};
 
 use crate::cyclic::Cyclic;
@@ -17,6 +18,7 @@ impl Network {
         requires driven { Driven signals.items }
         requires wired { Wired signals.items }
         requires latched { LatchesWired signals.items }
+        requires room { HasRoom (length signals.items) turns }
         ensures { Built signals.items result }
     {
         let wires = Wires { signals: &signals };

@@ -39,7 +39,7 @@ invariant_of-web g c =
     let r = g.G.Semiring.ops in
     let x = view_of c.args.board in
     let y : View _ = record { network = c.write.new.network; starts = c.write.new.starts; weights = c.write.new.weights; values = c.args.board.values.now } in
-    let ok = passed (edge_ops r) x (length c.args.strip.now) c.limit.result c.args.at c.args.edit (no_fault _ (tt {0}) (tt {0}) c.in_ok-check.ensures) in
+    let ok = passed_told (edge_ops r) x (length c.args.strip.now) c.limit.result c.args.at c.args.edit c.limit.result refl c.in_ok-check.ensures in
     record { fit = still_fits r g.G.Gauge.delays x y _ _ c.args.at c.args.edit ok c.in_ok-write.ensures }
 
 pub settle-requires : goal.settle-requires

@@ -38,8 +38,6 @@ invariant_of-self c =
     subst (λ (ts : List ℕ). get_or order' (get_or ts s 0) 0 ≡ s) are (c.list_by_turn.ensures s (omega (arith, l, ap length are, turns-long))) in
     record {
       few = omega (arith, ap length turns-are, turns-long, t.few);
-      turns = t.turns;
-      orders = t.orders;
       long = ap length order-are ∙ order-long ∙ sym (ap length turns-are ∙ turns-long);
       numbered = inverse_as n turns' order' _ turns-are order-are (ap length turns-are ∙ turns-long) (still_numbered (turns_of t) (order_of t) marks turns' n t.long t.numbered t.listed renumbered order' back);
       listed = inverse_as n order' turns' _ order-are turns-are (ap length turns-are ∙ turns-long) (still_listed (turns_of t) (order_of t) marks turns' n t.long t.numbered t.listed renumbered order' back);
