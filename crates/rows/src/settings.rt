@@ -30,14 +30,9 @@ pub fn row_matches(marks: &[u8], setting: u32) -> bool
 pub fn row_settings(marks: &[u8]) -> u16
     ensures { Covers marks.now result }
 {
-    // A loop: a filter and a fold would need a function of their own to say what they give.
-    let mut matched = 0u16;
-    for s in 0..16u32 {
-        if row_matches(marks, s) {
-            matched |= 1 << s;
-        }
-    }
-    matched
+    (0..16u32).fold(0u16, |matched, s| {
+        matched | u16::from(row_matches(marks, s)) << s
+    })
 }
 
 /// The settings that were matched before, or that the marks fit.
