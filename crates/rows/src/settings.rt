@@ -15,7 +15,7 @@ fn mark_fits(mark: u8, value: u32) -> bool
 pub fn row_matches(marks: &[u8], setting: u32) -> bool
     ensures { result ≡ matches marks.now setting }
 {
-    // A loop: `all` has no place for the setting, which is halved from mark to mark.
+    // A loop: as a try_fold, `returns` stayed open.
     let mut rest = setting;
     for m in marks {
         if !mark_fits(*m, rest % 2) {
