@@ -3,7 +3,7 @@ ghost use Rattle.fault.specs.Causes.{number_of};
 
 use crate::cause::Cause;
 
-/// A refusal: the cause, and the byte offset in the file that is read. Calls without a file say 0.
+/// A refusal: the cause, and the byte offset in the file that is read. By the rules, calls without a file say 0.
 #[derive(Clone, Copy, PartialEq, Eq, Debug)]
 pub struct Refusal {
     pub cause: Cause,
@@ -14,6 +14,6 @@ impl Refusal {
     pub fn number(self) -> u8
         ensures { result ≡ number_of self.cause }
     {
-        self.cause.number()
+        u8::from(self.cause)
     }
 }

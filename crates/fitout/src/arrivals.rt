@@ -21,7 +21,7 @@ pub fn show_arrivals(printer: Printer<'_>, boards: &Boards) -> io::Result<()> {
         for edge in [Edge::Rise, Edge::Fall] {
             let late = arrival(&boards.late, signal, edge);
             let early = arrival(&boards.early, signal, edge);
-            let paths = arrival(&boards.count, signal, edge).paths();
+            let paths = u32::from(arrival(&boards.count, signal, edge));
             println!(rt; "ARRIVAL {name} {edge} LATE {late} EARLY {early} COUNT {paths}")?;
         }
     }

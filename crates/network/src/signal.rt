@@ -11,6 +11,7 @@ pub struct Latch {
 }
 
 /// What drives a signal.
+// No `Option<Driver>`: every match would unwrap once more, and `Network::driver` is an Option already.
 #[derive(Clone, Copy)]
 pub enum Driver {
     /// nothing yet, while a netlist is read

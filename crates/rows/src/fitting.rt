@@ -54,12 +54,8 @@ pub fn with_row(gate: Gate, row: Row<'_>) -> Gate
     ensures count { result.pin_count ≡ gate.pin_count }
     ensures cover { cover_on result ≡ with_row (row_on row.entry) (cover_on gate) }
 {
-    // Field by field: Rattle takes no `..gate` beside the ghost fields of a gate, and no array in place.
-    let pins = gate.pins;
-    Gate {
-        pins,
-        pin_count: gate.pin_count,
-        matched: with_settings(gate.matched, row.marks),
-        last_word: Some(is_one(row.value)),
-    }
+    let mut more = gate;
+    more.matched = with_settings(gate.matched, row.marks);
+    more.last_word = Some(is_one(row.value));
+    more
 }

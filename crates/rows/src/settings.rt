@@ -15,7 +15,7 @@ fn mark_fits(mark: u8, value: u32) -> bool
 pub fn row_matches(marks: &[u8], setting: u32) -> bool
     ensures { result ≡ matches marks.now setting }
 {
-    // A loop: `all` has no place for the setting, which is halved from mark to mark.
+    // A loop: as a try_fold, `returns` stayed open.
     let mut rest = setting;
     for m in marks {
         if !mark_fits(*m, rest % 2) {
@@ -30,14 +30,9 @@ pub fn row_matches(marks: &[u8], setting: u32) -> bool
 pub fn row_settings(marks: &[u8]) -> u16
     ensures { Covers marks.now result }
 {
-    // A loop: a filter and a fold would need a function of their own to say what they give.
-    let mut matched = 0u16;
-    for s in 0..16u32 {
-        if row_matches(marks, s) {
-            matched |= 1 << s;
-        }
-    }
-    matched
+    (0..16u32).fold(0u16, |matched, s| {
+        matched | u16::from(row_matches(marks, s)) << s
+    })
 }
 
 /// The settings that were matched before, or that the marks fit.

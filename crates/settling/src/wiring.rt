@@ -4,6 +4,7 @@ ghost use Rattle.settling.specs.Shapes.{Shape, Sound, tap_at, feeds, FirstFed, N
 use crate::tap::Tap;
 
 /// Signals with the wires between them, read in one direction, and turns by which every wire climbs.
+// `signal < size` stands with each function: a type for such numbers would be made anew at each tap and each turn.
 pub trait Wiring {
     ghost shape: { Self → Shape };
 
@@ -27,6 +28,7 @@ pub trait Wiring {
         ensures { result ≡ (shape self.now).signal_at turn };
 
     /// The number of taps into a signal.
+    // By place: a trait's function may not answer `impl Iterator`.
     fn tap_count(&self, signal: usize) -> usize
         requires { signal < (shape self.now).size }
         ensures { result ≡ length ((shape self.now).taps signal) };

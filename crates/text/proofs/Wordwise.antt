@@ -1,11 +1,16 @@
 -- The first word of a line and what follows it. Assumes nothing.
-use Rattle.std.proofs.Common.{◌≡◌, ℕ, suc, ◌+◌, ◌-◌, ◌<◌, Bool, true, false, cond, not, ◌||◌, List, [], ◌∷◌, length, take, drop, sym, refl, ap, ◌∙◌, ⊎_elim, one-add, arith}
+use Rattle.std.proofs.Common.{◌≡◌, ℕ, suc, ◌+◌, ◌-◌, ◌<◌, Bool, true, false, cond, not, ◌||◌, List, [], ◌∷◌, length, take, drop, sym, refl, ap, subst, ◌∙◌, ⊎_elim, one-add, arith}
 use mathlib.Core.Bool.{false≢true}
 use Rattle.std.specs.List.{prefix_len}
 use Rattle.std.proofs.lemmas.List.{drop-drop, length-take-le}
 use Rattle.std.proofs.lemmas.List.Sums.{prefix_len-le-length}
+use Rattle.std.proofs.lemmas.Bool.Decides.{nat_tests}
 use Rattle.std.proofs.lemmas.Bool.{cases_Bool, cond-true, cond-false}
-use Rattle.text.specs.Text.{piece, blank, solid, closes, solid_first, widened, begun, words}
+use Rattle.std.specs.Prelude.{Option, Some, None, nat_lt, IfSome, MatchOption}
+use Rattle.std.specs.Option.{is_some}
+use Rattle.text.specs.Views.{piece_of}
+use Rattle.text.specs.declared.word.Word.{Word}
+use Rattle.text.specs.Text.{Piece, piece, blank, solid, closes, solid_first, widened, begun, words}
 
 -- ---- how many bytes of a kind stand in front
 
@@ -117,3 +122,12 @@ module _ (xs : List ℕ) (from s e : ℕ) (hs : s ≡ from + prefix_len blank (d
       ∙ (ap (λ (m : ℕ). piece s (take m (drop s xs)) ∷ words (s + m) (drop m (drop s xs))) n
       ∙ (ap (λ (ys : List ℕ). piece s (take (e - s) (drop s xs)) ∷ words (s + (e - s)) ys) (drop-drop (e - s) s xs)
       ∙ sym (ap (λ (m : ℕ). piece s (take (e - s) (drop s xs)) ∷ words (s + m) (drop (s + m) xs)) k))))
+
+  -- the word from s up to e, where there is one
+  pub next_found : (P : Word → Type 0) (o : Option Word) → is_some o ≡ nat_lt s e → IfSome o P → ((w : Word) → P w → piece_of w ≡ piece s (take (e - s) (drop s xs))) → MatchOption o (words from (drop from xs) ≡ []) (λ w. words from (drop from xs) ≡ piece_of w ∷ words (w.at + length w.text.now) (drop (w.at + length w.text.now) xs))
+  next_found P None t _ _ =
+      let past : nat_lt s e ≡ false = sym t in
+      next_none (grind (arith, nat_tests))
+  next_found P (Some w) t p is =
+      let below : nat_lt s e ≡ true = sym t in
+      subst (λ (q : Piece). words from (drop from xs) ≡ q ∷ words (q.place + length q.bytes) (drop (q.place + length q.bytes) xs)) (sym (is w p)) (next_some (λ h. grind (arith, nat_tests)))

@@ -109,12 +109,8 @@ pub fn next_word<'a>(text: &'a [u8], from: usize) -> Option<Word<'a>>
 {
     let start = from + blanks_len(after(text, from));
     let end = start + word_len(after(text, start));
-    if start == end {
-        None
-    } else {
-        Some(Word {
-            text: &text[start..end],
-            at: start,
-        })
-    }
+    (start < end).then(|| Word {
+        text: &text[start..end],
+        at: start,
+    })
 }

@@ -26,12 +26,12 @@ xor_bit w z k l h =
     ap (λ n. bit (bit_xor w n) k) (one_shl z 32 l) ∙ grind (arith, nat_tests)
 
 module _ (n : ℕ) (ws : List ℕ) (long : length ws ≡ n) where
-  -- a turn is put
-  pub put_adds : (t : ℕ) → t < 32 * n → (u : ℕ) → in_strip n (set ws (t / 32) (bit_or (get_or ws (t / 32) 0) (one (t % 32)))) u ≡ (eqb u t || in_strip n ws u)
-  put_adds t l u =
-      let w = get_or ws (t / 32) 0 in
-      let here = get_or-set_same ws (t / 32) (bit_or w (one (t % 32))) 0 (omega arith) in
-      let other = get_or-set_other ws (t / 32) (u / 32) (bit_or w (one (t % 32))) 0 in
+  -- a turn is put, in word i
+  pub put_adds : (t i : ℕ) → t < 32 * n → i ≡ t / 32 → (u : ℕ) → in_strip n (set ws i (bit_or (get_or ws i 0) (one (t % 32)))) u ≡ (eqb u t || in_strip n ws u)
+  put_adds t i l is u =
+      let w = get_or ws i 0 in
+      let here = get_or-set_same ws i (bit_or w (one (t % 32))) 0 (omega arith) in
+      let other = get_or-set_other ws i (u / 32) (bit_or w (one (t % 32))) 0 in
       let bits = or_bit w (t % 32) (u % 32) (omega arith) in
       grind (arith, nat_tests)
 

@@ -39,7 +39,7 @@ impl WaitingList for BitStrip {
         if turn >= 256 {
             return Err(OverLimit);
         }
-        let word = (turn / 32) as usize;
+        let word = usize::from(turn / 32);
         self.words[word] |= 1u32 << (turn % 32);
         Ok(())
     }

@@ -6,11 +6,11 @@ use crate::count::Count;
 use crate::gauges::Gauge;
 use crate::semiring::Semiring;
 
-impl Count {
-    pub fn paths(self) -> u32
-        ensures { result ≡ self.paths }
-    {
-        self.paths
+impl From<Count> for u32 {
+    ghost from_gives = { λ c n. n ≡ c.paths };
+
+    fn from(count: Count) -> u32 {
+        count.paths
     }
 }
 

@@ -1,4 +1,5 @@
 // Marks on what a gate reaches.
+// Network and strip stay two parameters: marking reads the network, and `connect` then changes it, so no struct holds both.
 ghost use Rattle.std.specs.Prelude.{◌≡◌, ◌+◌, ◌<◌, ◌≤◌, length};
 ghost use Rattle.std.specs.List.{list_any};
 ghost use Rattle.network.specs.Marks.{marked, MarkedBelow, MarksReached};
@@ -30,6 +31,7 @@ fn mark_turn(net: &Network, gate: usize, turn: u16, strip: &mut [u8])
     }
 }
 
+// Bytes, and any but 0 a mark: callers lend the strip, and a strip of bool would be a tighter type for them.
 /// Marks the gate and every signal that it reaches, taking the signals by turn. What the strip held before is gone.
 pub fn mark_reached(net: &Network, gate: usize, strip: &mut [u8])
     requires { size net.now ≤ length strip.old }

@@ -19,16 +19,13 @@ impl Signal {
         requires { pin < number_of_pins self.driver }
         ensures { result ≡ rewired self pin feeder }
     {
-        match self.driver {
-            Driver::Gated(gate) => {
-                let mut wired = gate;
-                wired.pins[pin] = feeder;
-                Signal {
-                    driver: Driver::Gated(wired),
-                    ..self
-                }
-            }
-            Driver::Undriven | Driver::Input | Driver::Latched(_) => unreachable(),
+        let Driver::Gated(mut wired) = self.driver else {
+            unreachable()
+        };
+        wired.pins[pin] = feeder;
+        Signal {
+            driver: Driver::Gated(wired),
+            ..self
         }
     }
 }

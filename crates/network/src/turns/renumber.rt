@@ -7,7 +7,7 @@ ghost use Rattle.network.specs.Turns.{count_of, turns_of, order_of};
 
 use crate::turns::Turns;
 
-// What these functions ask of the lists stands with each: no type can hold it while the turns change.
+// `number` and `renumber` ask this of the order, `list_by_turn` of the turns; `Turns` itself can't hold it in between.
 
 // Does the signal have a mark, or none, whichever is wanted?
 fn is_picked(marks: &[u8], wanted: bool, signal: usize) -> bool
@@ -24,6 +24,7 @@ fn number(order: &[u16], marks: &[u8], wanted: bool, first: u16, turn_of: &mut [
     requires fits { length turn_of.old ≤ length marks.now }
     ensures { Numbered (picks marks.now wanted) order.now first (length order.now) turn_of.old turn_of.new result }
 {
+    // `next` counts the picked alone and is answered: a filter zipped with a range would count them, but not tell where it stopped.
     let mut next = first;
     for listed in order {
         let signal = usize::from(*listed);

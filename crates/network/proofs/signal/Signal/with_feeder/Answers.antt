@@ -10,7 +10,7 @@ use Rattle.network.proofs.signal.Signal.with_feeder.Goals as goal
 pub returns : goal.returns
 returns c =
     let x = c.args.self in
-    let g = c.in-Gated.gate in
+    let g = c.in-Gated.wired in
     let k = c.args.pin in
     let u = c.args.feeder in
     let with : Driver → Signal = λ d. record { name = x.name; driver = d; output = x.output; captured = x.captured } in
