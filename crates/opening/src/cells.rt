@@ -14,6 +14,7 @@ use weights::weight::{pin_weight, source_start};
 pub fn store<V: Copy>(cells: &mut [V], cell: usize, value: V)
     ensures { cells.new ≡ slice_set cells.old cell value }
 {
+    // By index: a slice's `get_mut` says nothing of the cells after the write, so `returns-in-Some` stayed open.
     if cell < cells.len() {
         cells[cell] = value;
     }
