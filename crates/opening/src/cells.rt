@@ -1,5 +1,5 @@
 // What stands in a cell for a signal or a pin.
-ghost use Rattle.std.specs.Prelude.{◌≡◌, slice_set};
+ghost use Rattle.std.specs.Prelude.{◌≡◌, ◌+◌, ◌*◌, slice_set};
 ghost use Rattle.opening.specs.Cells.{start_at, driver_weight, weight_at};
 
 use gauge::gauges::Gauge;
@@ -18,6 +18,14 @@ pub fn store<V: Copy>(cells: &mut [V], cell: usize, value: V)
     if cell < cells.len() {
         cells[cell] = value;
     }
+}
+
+/// The cell of a pin's weight.
+// Gate and pin stay two numbers, as the files give them.
+pub fn weight_cell(gate: u16, pin: u8) -> usize
+    ensures { result ≡ 4 * gate + pin }
+{
+    4 * usize::from(gate) + usize::from(pin)
 }
 
 /// The start of a signal with these times; zero where it is no source.
