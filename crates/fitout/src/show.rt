@@ -119,11 +119,6 @@ impl<'a> Printer<'a> {
 
     /// A word of the text.
     fn word(self, span: Span) -> &'a str {
-        let text = self.text;
-        let bytes = text
-            .get(span.at..)
-            .and_then(|rest| rest.get(..span.len))
-            .unwrap_or_default();
-        str::from_utf8(bytes).unwrap_or_default()
+        str::from_utf8(span.of(self.text)).unwrap_or_default()
     }
 }
