@@ -6,6 +6,8 @@ use fault::refusal::Refusal;
 use fault::room_fault::RoomFault;
 
 /// Why an edit is refused; `at` is the place of the field's tag, and 0 in a direct call.
+// Variants of its own, not Room(RoomFault): callers match them and the definitions name them.
+// `at` is 0, not None, in a direct call: the promises of the direct calls name it.
 #[derive(Clone, Copy, PartialEq, Eq, Debug)]
 pub enum EditFault {
     /// a table of the board or the mark strip has too few cells

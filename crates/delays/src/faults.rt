@@ -9,6 +9,7 @@ use fault::room_fault::RoomFault;
 use fields::faults::FieldFault;
 
 /// Why a board is not opened with a delay table; `at` is the place of a field's tag.
+// Variants of its own, not Room(RoomFault): callers match them and the definitions name them.
 #[derive(Clone, Copy, PartialEq, Eq, Debug)]
 pub enum DelayFault {
     /// a table of the board has too few cells

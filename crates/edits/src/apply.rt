@@ -16,6 +16,7 @@ use settling::web::Web;
 use waiting::list::WaitingList;
 
 /// Makes the edit of a field whose tag stands at a place, and answers how many signals were worked. The strip is left with marks.
+// Board, list and strip stay parameters, as in edits: each call promises `empty` and `limit` of its own list.
 pub fn apply_at<G: Gauge, W: WaitingList>(
     board: Board<'_, EdgeMatrix<G>>,
     list: &mut W,

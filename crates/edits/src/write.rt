@@ -1,5 +1,5 @@
 // Writes what an edit changes.
-ghost use Rattle.std.specs.Prelude.{◌≡◌, ◌+◌, ◌*◌, ◌≤◌, true, length};
+ghost use Rattle.std.specs.Prelude.{◌≡◌, ◌≤◌, true, length};
 ghost use Rattle.network.specs.Net.{size};
 ghost use Rattle.book.specs.Changes.{edited_by};
 ghost use Rattle.book.specs.Judging.{marks};
@@ -12,7 +12,7 @@ use gauge::gauges::Gauge;
 use gauge::matrix::EdgeMatrix;
 use gauge::semiring::Semiring;
 use network::network::Network;
-use opening::cells::{store, weight_at};
+use opening::cells::{store, weight_at, weight_cell};
 use weights::weight::source_start;
 
 // The gate's output or the source that an edit is at.
@@ -27,14 +27,8 @@ pub(crate) fn edited_signal(edit: Edit) -> usize
     }
 }
 
-// The cell of a pin's weight.
-fn weight_cell(gate: u16, pin: u8) -> usize
-    ensures { result ≡ 4 * gate + pin }
-{
-    4 * usize::from(gate) + usize::from(pin)
-}
-
 // Writes a weight or a start, or gives a pin another feeder; a rewiring that would close a cycle writes nothing.
+// Network, starts and weights stay parameters: a struct of them would be made from the board for this call alone.
 pub(crate) fn write<G: Gauge>(
     network: &mut Network,
     starts: &mut [EdgeMatrix<G>],

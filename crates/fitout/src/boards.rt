@@ -14,6 +14,7 @@ use std::alloc::{AllocError, Global};
 use waiting::strip::BitStrip;
 
 /// The three tables of a board.
+// Three tables, not one of triples: values are written while starts and weights are read.
 #[derive(Drop)]
 pub struct Tables<G> {
     pub starts: Vec<EdgeMatrix<G>>,

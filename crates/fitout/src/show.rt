@@ -1,10 +1,12 @@
 // A network in words.
 use fault::refusal::Refusal;
 use network::gate::Gate;
+use network::limit::MAX_SIGNALS;
 use network::network::Network;
 use network::signal::{Driver, Latch};
 use network::span::Span;
 use std::{io, str};
+use waiting::drain::drain_into;
 use waiting::list::WaitingList;
 use waiting::strip::BitStrip;
 
@@ -33,6 +35,7 @@ impl<'a> Printer<'a> {
     pub fn show_network(self) -> io::Result<()> {
         let size = self.network.size();
         println!(self.rt; "SIGNALS {size}")?;
+        // By number, which names the signal in the network and in the tables alike.
         for signal in 0..size {
             self.show_signal(signal)?;
         }
@@ -76,6 +79,7 @@ impl<'a> Printer<'a> {
     fn show_gate(self, signal: usize, gate: Gate) -> io::Result<()> {
         let rt = self.rt;
         print!(rt; " GATE")?;
+        // By number, which names the pin to network and gate alike.
         for pin in 0..self.network.pin_count(signal) {
             if let Some(feeder) = self.network.get_feeder(signal, pin) {
                 let name = self.name(feeder);
@@ -90,16 +94,17 @@ impl<'a> Printer<'a> {
     fn show_turns(self) -> io::Result<()> {
         let rt = self.rt;
         let mut strip = BitStrip::new();
+        // By number, which names the signal in the network and in the tables alike.
         for signal in 0..self.network.size() {
             if let Some(turn) = self.network.get_turn(signal) {
                 let _ = strip.put(turn);
             }
         }
+        let mut turns = [0; MAX_SIGNALS];
+        let count = drain_into(&mut strip, &mut turns);
         print!(rt; "TURNS")?;
-        for _ in 0..self.network.size() {
-            if let Some(turn) = strip.take()
-                && let Some(signal) = self.network.get_signal_at(turn)
-            {
+        for turn in turns.iter().take(count) {
+            if let Some(signal) = self.network.get_signal_at(*turn) {
                 let name = self.name(signal);
                 print!(rt; " {name}")?;
             }
@@ -109,19 +114,11 @@ impl<'a> Printer<'a> {
 
     /// The name of a signal, or nothing where there is no such signal.
     pub fn name(self, signal: usize) -> &'a str {
-        match self.network.name(signal) {
-            Some(name) => self.word(name),
-            None => "",
-        }
+        self.network.name(signal).map_or("", |name| self.word(name))
     }
 
     /// A word of the text.
     fn word(self, span: Span) -> &'a str {
-        let text = self.text;
-        let bytes = text
-            .get(span.at..)
-            .and_then(|rest| rest.get(..span.len))
-            .unwrap_or_default();
-        str::from_utf8(bytes).unwrap_or_default()
+        str::from_utf8(span.of(self.text)).unwrap_or_default()
     }
 }

@@ -1,5 +1,5 @@
 -- Cycles among the signals that a text describes are those of the network's signals.
-use Rattle.std.proofs.Common.{◌≡◌, ℕ, zero, suc, ◌<◌, List, [], ◌∷◌, length, get_or, IsErrAnd, MatchResult, Ok, Err, Result, sym, refl, ap, ◌∙◌, subst, arith, length-take-le, get_or-take}
+use Rattle.std.proofs.Common.{◌≡◌, ℕ, zero, suc, ◌<◌, List, [], ◌∷◌, length, get_or, Ok, Err, sym, refl, ap, ◌∙◌, subst, arith, length-take-le, get_or-take}
 use Rattle.fault.specs.declared.cause.Cause.TheVariants.{Cycle}
 use Rattle.network.specs.Build.{Built}
 use Rattle.network.specs.Reach as net
@@ -11,11 +11,9 @@ use Rattle.network.specs.declared.span.Span.{Span}
 use Rattle.network.specs.declared.signal.Driver.{Driver}
 use Rattle.network.specs.declared.signal.Driver.TheVariants.{Undriven, Input, Latched, Gated}
 use Rattle.network.specs.declared.signal.Signal.{Signal}
-use Rattle.netlist.specs.declared.netlist_fault.NetlistFault.{NetlistFault}
 use Rattle.netlist.specs.declared.netlist_fault.NetlistFault.TheVariants.{OfNetlist}
 use Rattle.netlist.specs.Cycles.{pins_of, pins_at, Wire, LowestOnCycle, Acyclic, Closes, network_on}
 use Rattle.netlist.specs.Faults.{fault}
-use Rattle.netlist.specs.Outcomes.{refusal_of}
 use Rattle.netlist.specs.Reading.{netlist}
 use Rattle.netlist.specs.Signals.{no_signal}
 use Rattle.netlist.specs.Views.{driver_on, signals_on}

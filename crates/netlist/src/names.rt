@@ -13,6 +13,7 @@ use text::scan::check_name;
 use text::word::Token;
 use text::word_fault::WordFault;
 
+// Text and names stay two parameters: callers hand on parts of a line's words, and would join each part with the text again.
 fn is_dotted(text: &[u8], name: Span) -> bool
     ensures { result ≡ dotted (piece_on text.now name).bytes }
 {

@@ -10,10 +10,8 @@ use text::word::Word;
 pub fn word_at(text: &[u8], span: Span) -> Word<'_>
     ensures { piece_of result ≡ piece_on text.now span }
 {
-    let from = span.at.min(text.len());
-    let len = span.len.min(text.len() - from);
     Word {
-        text: &text[from..from + len],
+        text: span.of(text),
         at: span.at,
     }
 }

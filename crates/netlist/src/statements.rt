@@ -60,6 +60,7 @@ fn latch_words(text: &[u8], rest: &[Span]) -> Option<(Option<(Span, Span)>, Opti
     }
 }
 
+// Text, place and words stay three parameters: each statement takes the words apart by a pattern, and would take a struct apart first.
 impl State {
     // A line of the body with these names, and as many pins: it is judged up to a second driver, and the signals are mentioned.
     fn admit(

@@ -28,6 +28,7 @@ macro_rules! lend {
 }
 
 /// A network with three tables that the caller keeps: starts and values with a cell for each signal, and weights with cell 4 × signal + pin.
+// Three tables, not one of triples: values are written while starts and weights are read.
 #[derive(Drop)]
 pub struct Board<'a, V> {
     pub network: &'a mut Network,

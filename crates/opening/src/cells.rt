@@ -1,5 +1,5 @@
 // What stands in a cell for a signal or a pin.
-ghost use Rattle.std.specs.Prelude.{◌≡◌, slice_set};
+ghost use Rattle.std.specs.Prelude.{◌≡◌, ◌+◌, ◌*◌, slice_set};
 ghost use Rattle.opening.specs.Cells.{start_at, driver_weight, weight_at};
 
 use gauge::gauges::Gauge;
@@ -14,9 +14,18 @@ use weights::weight::{pin_weight, source_start};
 pub fn store<V: Copy>(cells: &mut [V], cell: usize, value: V)
     ensures { cells.new ≡ slice_set cells.old cell value }
 {
+    // By index: a slice's `get_mut` says nothing of the cells after the write, so `returns-in-Some` stayed open.
     if cell < cells.len() {
         cells[cell] = value;
     }
+}
+
+/// The cell of a pin's weight.
+// Gate and pin stay two numbers, as the files give them.
+pub fn weight_cell(gate: u16, pin: u8) -> usize
+    ensures { result ≡ 4 * gate + pin }
+{
+    4 * usize::from(gate) + usize::from(pin)
 }
 
 /// The start of a signal with these times; zero where it is no source.

@@ -8,7 +8,7 @@ ghost use Rattle.opening.specs.Fills.{starts_with, weights_with, after_all};
 ghost use Rattle.fields.specs.Lists.{fields};
 ghost use Rattle.fields.specs.Says.{entry_of};
 
-use crate::cells::{start_at, store, weight_at};
+use crate::cells::{start_at, store, weight_at, weight_cell};
 use fields::entry::Entry;
 use fields::read::Fields;
 use gauge::gauges::Gauge;
@@ -40,13 +40,8 @@ fn fill_entry<G: Gauge>(
     match entry {
         Entry::Clock(_) => {}
         Entry::Delay { gate, pin, times } => {
-            let gate = usize::from(gate);
-            let pin = usize::from(pin);
-            store(
-                weights,
-                4 * gate + pin,
-                weight_at(network, gate, pin, times),
-            );
+            let weight = weight_at(network, usize::from(gate), usize::from(pin), times);
+            store(weights, weight_cell(gate, pin), weight);
         }
         Entry::Start { source, times } => {
             let source = usize::from(source);
@@ -73,6 +68,7 @@ fn fill_entries<G: Gauge>(
 }
 
 // Fills starts and weights with what the table says, and with four zeros what it does not name.
+// Network, starts and weights stay parameters: a struct of them would be made from the board for this call alone.
 pub(crate) fn fill<G: Gauge>(
     network: &Network,
     file: &[u8],

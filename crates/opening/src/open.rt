@@ -23,6 +23,7 @@ pub struct Opened {
 }
 
 /// Fills the tables as the network and the delay table say, and makes each value its path sum.
+// Board and list stay parameters, as in edits: each call promises `empty` and `limit` of its own list.
 pub fn open<G: Gauge, W: WaitingList>(
     board: Board<'_, EdgeMatrix<G>>,
     file: &[u8],

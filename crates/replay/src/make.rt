@@ -15,6 +15,7 @@ use script::run::run_script;
 use waiting::list::WaitingList;
 
 /// Makes one call: an edit, or a script.
+// Board, list and strip stay parameters, as in edits: each call promises `empty` and `limit` of its own list.
 pub fn make_call<G: Gauge, W: WaitingList>(
     board: Board<'_, EdgeMatrix<G>>,
     list: &mut W,

@@ -18,6 +18,7 @@ use waiting::list::WaitingList;
 
 /// Makes the edits of a script in order up to the first that is refused, which leaves those before it made;
 /// answers the sum of their counts, or why it stopped.
+// Board, list and strip stay parameters, as in edits: each call promises `empty` and `limit` of its own list.
 pub fn run_script<G: Gauge, W: WaitingList>(
     board: Board<'_, EdgeMatrix<G>>,
     list: &mut W,

@@ -17,6 +17,7 @@ use opening::board::Board;
 use waiting::list::WaitingList;
 
 // Makes the fields' edits up to the first refusal, and answers the sum of their counts.
+// Board, list and strip stay parameters, as in edits: each call promises `empty` and `limit` of its own list.
 pub(crate) fn take_fields<G: Gauge, W: WaitingList>(
     board: Board<'_, EdgeMatrix<G>>,
     list: &mut W,
@@ -38,7 +39,7 @@ pub(crate) fn take_fields<G: Gauge, W: WaitingList>(
     let mut total = 0;
     for field in Fields::<Edit>::new(file) {
         let edit = field.said?;
-        // `lend!` takes its board, so that at each turn the parts are lent by hand
+        // By hand: `lend!` takes its board, and no other place lends one again at each turn.
         let whole = Board {
             network: &mut *network,
             starts: &mut *starts,

@@ -25,10 +25,8 @@ impl Signals {
     fn has_driver(&self, text: &[u8], name: Span) -> bool
         ensures { result ≡ has_driver (signals_in text.now self.now) (piece_on text.now name).bytes }
     {
-        let Some(number) = self.position(text, name) else {
-            return false;
-        };
-        is_driven(self.items[number].driver)
+        self.position(text, name)
+            .is_some_and(|number| is_driven(self.items[number].driver))
     }
 
     /// Refuses the first of the names that has a driver already, or stands among those before it.

@@ -35,6 +35,7 @@ impl Signals {
         ensures { (t : List ℕ) → result ≡ row_stands stage (signals_in t self.now) (row_on row.entry) }
     {
         match stage {
+            // By index: a closure tells nothing of `row_joins`, whose clause is for every text, so `returns-in-Rows` stayed open.
             Stage::Rows(g) => g < self.items.len() && row_joins(self.items[g].driver, row),
             Stage::Before | Stage::Body | Stage::After => false,
         }
@@ -44,11 +45,10 @@ impl Signals {
     pub(crate) fn apply_row(&mut self, stage: Stage, row: Row<'_>)
         ensures { (t : List ℕ) → signals_in t self.new ≡ row_at stage (signals_in t self.old) (row_on row.entry) }
     {
-        match stage {
-            Stage::Rows(g) if g < self.items.len() => {
-                self.items[g] = add_row(self.items[g], row);
-            }
-            _ => {}
+        if let Stage::Rows(g) = stage
+            && let Some(signal) = self.items.get_mut(g)
+        {
+            *signal = add_row(*signal, row);
         }
     }
 }

@@ -12,6 +12,7 @@ use network::span::Span;
 
 impl Signals {
     /// The number of the signal of this name, if there is one.
+    // Searched, not in a map: a map would ask for memory as it grows.
     pub(crate) fn position(&self, text: &[u8], name: Span) -> Option<usize>
         ensures { Numbered (signals_in text.now self.now) (piece_on text.now name).bytes result }
     {
