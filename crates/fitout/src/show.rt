@@ -55,7 +55,7 @@ impl<'a> Printer<'a> {
         match self.network.driver(signal) {
             Some(Driver::Input) => println!(rt; " INPUT"),
             Some(Driver::Latched(latch)) => self.show_latch(latch),
-            Some(Driver::Gated(gate)) => self.show_gate(signal, gate),
+            Some(Driver::Gated(gate)) => self.show_gate(gate),
             Some(Driver::Undriven) | None => println!(rt),
         }
     }
@@ -76,16 +76,13 @@ impl<'a> Printer<'a> {
         println!(rt)
     }
 
-    fn show_gate(self, signal: usize, gate: Gate) -> io::Result<()> {
+    fn show_gate(self, gate: Gate) -> io::Result<()> {
         let rt = self.rt;
         print!(rt; " GATE")?;
-        // By number, which names the pin to network and gate alike.
-        for pin in 0..self.network.pin_count(signal) {
-            if let Some(feeder) = self.network.get_feeder(signal, pin) {
-                let name = self.name(feeder);
-                let sense = gate.sense(pin);
-                print!(rt; " {name} {sense}")?;
-            }
+        for (pin, feeder) in gate.pins().iter().enumerate() {
+            let name = self.name(usize::from(*feeder));
+            let sense = gate.sense(pin);
+            print!(rt; " {name} {sense}")?;
         }
         println!(rt)
     }

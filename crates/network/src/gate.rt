@@ -18,8 +18,8 @@ pub struct Gate {
 }
 
 impl Gate {
-    // The signals at its pins.
-    pub(crate) fn pins(&self) -> &[u16]
+    /// The signals at its pins.
+    pub fn pins(&self) -> &[u16]
         ensures { result.now ≡ take self.now.pin_count self.now.pins }
     {
         &self.pins[..usize::from(self.pin_count)]
