@@ -4,10 +4,10 @@ ghost use Rattle.book.specs.declared.script_fault.ScriptFault.TheVariants.{Field
 
 use crate::edit_fault::EditFault;
 use fault::cause::Cause;
+use fault::limit::MAX_BYTES;
 use fault::refusal::Refusal;
 use fault::room_fault::RoomFault;
 use fields::faults::FieldFault;
-use fault::limit::MAX_BYTES;
 
 /// Why a call is refused. What a field lacks and why an edit is refused are kept whole.
 #[derive(Clone, Copy, PartialEq, Eq, Debug)]

@@ -3,10 +3,10 @@ ghost use Rattle.delays.specs.Faults.{no_room, refusal_of};
 ghost use Rattle.delays.specs.declared.faults.DelayFault.TheVariants.{Field};
 
 use fault::cause::Cause;
+use fault::limit::MAX_BYTES;
 use fault::refusal::Refusal;
 use fault::room_fault::RoomFault;
 use fields::faults::FieldFault;
-use fault::limit::MAX_BYTES;
 
 /// Why a board is not opened with a delay table; `at` is the place of a field's tag.
 // Variants of its own, not Room(RoomFault): callers match them and the definitions name them.
