@@ -36,6 +36,7 @@ impl Signals {
         ensures { take (length pins.now) result ≡ numbers (signals_in text.now self.now) (pieces text.now pins.now) }
     {
         let mut found = [0u16; 4];
+        // By index: with `zip` the goal `number_of-requires` stayed open, that the word it gives is one of the pins.
         for (i, w) in pins.iter().enumerate() {
             found[i] = self.number_of(text, *w) as u16;
         }
