@@ -107,12 +107,12 @@ module _ (xs : List ℕ) (from s e : ℕ) (hs : s ≡ from + prefix_len blank (d
       blanks_skip from (drop from xs)
       ∙ (ap (λ (k : ℕ). words k (drop (prefix_len blank (drop from xs)) (drop from xs))) (sym hs) ∙ ap (words s) at_start_lem)
 
-  pub next_none : s ≡ e → words from (drop from xs) ≡ []
+  next_none : s ≡ e → words from (drop from xs) ≡ []
   next_none h =
       from_start
       ∙ no_word s (drop s xs) (sym (ap (prefix_len blank) at_start_lem) ∙ leading_after blank (drop from xs)) (omega arith)
 
-  pub next_some : (s ≡ e → ⊥) → words from (drop from xs) ≡ piece s (take (e - s) (drop s xs)) ∷ words (s + length (take (e - s) (drop s xs))) (drop (s + length (take (e - s) (drop s xs))) xs)
+  next_some : (s ≡ e → ⊥) → words from (drop from xs) ≡ piece s (take (e - s) (drop s xs)) ∷ words (s + length (take (e - s) (drop s xs))) (drop (s + length (take (e - s) (drop s xs))) xs)
   next_some h =
       let l : 0 < prefix_len solid (drop s xs) = omega arith in
       let n : prefix_len solid (drop s xs) ≡ e - s = omega arith in
