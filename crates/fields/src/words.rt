@@ -4,6 +4,8 @@ ghost use Rattle.fields.specs.Says.{clock_of, times_of};
 use crate::entry::Clock;
 use weights::times::Times;
 
+// Two functions: one over any number of words would still name each word here.
+
 /// The clock in twelve bytes, four for each number.
 pub(crate) fn read_clock(bytes: &[u8]) -> Option<Clock>
     ensures { result ≡ (if length bytes.now == 12 then Some (clock_of bytes.now) else None) }

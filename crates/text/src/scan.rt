@@ -28,6 +28,8 @@ fn is_bad(b: u8) -> bool
     b == b'\\' || !matches!(b, b'\t' | b'\n' | b'\r' | b' '..=b'~')
 }
 
+// Cut by place here: `Span::of`, which does it for readers, stands in a crate that this one does not stand on.
+
 /// The text from `from` on, which may lie past its end.
 fn after(text: &[u8], from: usize) -> &[u8]
     ensures is { result.now ≡ drop from text.now }
