@@ -17,7 +17,7 @@ use network::network::Network;
 use weights::times::Times;
 
 // The cell of a pin, where the network has the pin.
-// Gate and pin stay two numbers, as the files give them.
+// Gate and pin stay two numbers, as the files give them; `weight_cell` stands in a crate above.
 fn pin_cell(network: &Network, gate: u16, pin: u8) -> Option<usize>
     ensures { result ≡ (if has (outline_of network.now) (Pin gate pin) then Some (4 * gate + pin) else None) }
 {

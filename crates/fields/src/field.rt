@@ -46,7 +46,7 @@ pub fn field_at(file: &[u8], at: usize) -> Result<(Field<'_>, usize), FieldFault
 }
 
 /// What a tag is where its file has no such field: misplaced, or unknown to both files.
-// The tags of both files, as the two matches have them.
+// Tags stay bytes here too: an enum with TryFrom would name each twice more before this match.
 pub(crate) fn stray_tag(tag: u8, at: usize) -> FieldFault
     ensures { result ≡ stray_fault tag at }
 {

@@ -35,7 +35,7 @@ impl<'a> Printer<'a> {
     pub fn show_network(self) -> io::Result<()> {
         let size = self.network.size();
         println!(self.rt; "SIGNALS {size}")?;
-        // By number, which names the signal in the network and in the tables alike.
+        // By number, which names the signal in the network.
         for signal in 0..size {
             self.show_signal(signal)?;
         }
@@ -91,7 +91,7 @@ impl<'a> Printer<'a> {
     fn show_turns(self) -> io::Result<()> {
         let rt = self.rt;
         let mut strip = BitStrip::new();
-        // By number, which names the signal in the network and in the tables alike.
+        // By number, which names the signal in the network.
         for signal in 0..self.network.size() {
             if let Some(turn) = self.network.get_turn(signal) {
                 let _ = strip.put(turn);

@@ -89,6 +89,7 @@ impl<S: Semiring> Semiring for EdgeMatrix<S> {
         })
     }
 
+    // Entry by entry, as `ops.same` says: a derived `==` would have to be proved to answer as it does.
     fn same(self, other: EdgeMatrix<S>) -> bool {
         self.rise_rise.same(other.rise_rise)
             && self.rise_fall.same(other.rise_fall)

@@ -32,6 +32,7 @@ fn in_body(stage: Stage) -> bool
     matches!(stage, Stage::Body | Stage::Rows(_))
 }
 
+// Two tests, each under the name that the rule has for it: one that takes the test would say less.
 fn is_kind(text: &[u8], word: Span) -> bool
     ensures { result ≡ one_of latch_types (piece_on text.now word).bytes }
 {

@@ -31,6 +31,7 @@ impl Wires<'_> {
         ensures { MatchResult result (λ _. Ranked self.entry.signals.now turns.new (length self.entry.signals.now)) (λ s. LowestOnCycle self.entry.signals.now s × (s < length self.entry.signals.now)) }
     {
         turns.start(self.signals.len());
+        // By turn, which is what is placed: no list is indexed.
         for placed in 0..self.signals.len() {
             let Some(turn) = self.next_ready(turns, placed) else {
                 return Err(self.lowest_on_cycle());

@@ -34,6 +34,7 @@ impl Wiring for Forwards<'_> {
         self.network.pin_count(signal)
     }
 
+    // 4 × signal + pin by hand: `weight_cell` takes a file's narrow numbers, so that it can't overflow.
     fn tap(&self, signal: usize, place: usize) -> Tap {
         Tap {
             from: self.network.feeder(signal, place),

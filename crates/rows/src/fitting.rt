@@ -54,6 +54,7 @@ pub fn with_row(gate: Gate, row: Row<'_>) -> Gate
     ensures count { result.pin_count ≡ gate.pin_count }
     ensures cover { cover_on result ≡ with_row (row_on row.entry) (cover_on gate) }
 {
+    // One changed copy: Rattle takes no `..gate` beside the ghost fields of a gate.
     let mut more = gate;
     more.matched = with_settings(gate.matched, row.marks);
     more.last_word = Some(is_one(row.value));

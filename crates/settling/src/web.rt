@@ -56,6 +56,7 @@ impl<V: Semiring, N: Wiring> Web<'_, V, N> {
     {
         list.clear();
         let count = self.wiring.signal_count();
+        // By turn, which is what is worked: no list is indexed.
         for turn in 0..count {
             let signal = self.wiring.signal_at(turn as u16);
             values[signal] = self.work(values, signal);

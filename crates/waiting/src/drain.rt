@@ -6,6 +6,7 @@ use crate::list::WaitingList;
 
 /// Takes turns off the list into `out`, as many as wait and there is room for, and answers how many.
 /// With as many cells as the limit there is room for all.
+// The number, not the part that was written: the contract speaks of the cells past it too.
 pub fn drain_into<W: WaitingList>(list: &mut W, out: &mut [u16]) -> usize
     ensures limit { W.limit list.new ≡ W.limit list.old }
     ensures room { result ≤ length out.old }

@@ -38,6 +38,7 @@ pub fn mark_reached(net: &Network, gate: usize, strip: &mut [u8])
     ensures { MarksReached net.now gate strip.new }
 {
     strip.fill(0);
+    // By turn, which is what is marked up to: no list is indexed.
     for turn in 0..net.size() as u16 {
         mark_turn(net, gate, turn, strip);
     }

@@ -10,6 +10,7 @@ use crate::turns::Turns;
 // `number` and `renumber` ask this of the order, `list_by_turn` of the turns; `Turns` itself can't hold it in between.
 
 // Does the signal have a mark, or none, whichever is wanted?
+// A flag, not a test: the contracts of both passes name what is picked by one definition with it.
 fn is_picked(marks: &[u8], wanted: bool, signal: usize) -> bool
     requires { signal < length marks.now }
     ensures { result ≡ picks marks.now wanted signal }
