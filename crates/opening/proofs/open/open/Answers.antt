@@ -9,9 +9,6 @@ invariant_of-web g c =
     let long = roomy (view_of c.args.board) _ c.in_ok-check_room.ensures in
     record { fit = fits c.args.board.network.now _ _ (omega (arith, long.starts)) (omega (arith, long.weights)) }
 
-pub work_all-count-requires : goal.work_all-count-requires
-work_all-count-requires g c = (roomy (view_of c.args.board) _ c.in_ok-check_room.ensures).values
-
 pub returns : goal.returns
 returns g c =
     let board = c.args.board in
