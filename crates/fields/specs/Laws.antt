@@ -1,9 +1,10 @@
 -- What holds of the fields of every file.
-use Rattle.std.specs.Prelude.{◌≡◌, ℕ, List, ◌∷◌, ◌++◌, map, take, Ok, Result}
+use Rattle.std.specs.Prelude.{◌≡◌, ℕ, ◌+◌, List, ◌∷◌, ◌++◌, All, map, length, take, drop, IfErr, Ok, Result}
 use Rattle.std.specs.List.{flat_map}
 use Rattle.fields.specs.declared.faults.FieldFault.{FieldFault}
+use Rattle.fields.specs.Faults.{bad_field, refusal_of}
 use Rattle.fields.specs.Fields.{Content}
-use Rattle.fields.specs.Lists.{fields}
+use Rattle.fields.specs.Lists.{fields_from, fields}
 use Rattle.fields.specs.declared.read.Placed.{Placed}
 
 -- the fields before one are the fields of the bytes before its tag
@@ -14,3 +15,11 @@ CutBetween {A} says = (file : List ℕ) (before after : List (Placed A)) (f : Pl
 -- the fields of a file that is written value by value say these values, in order
 abbrev pub ReadBack : {A : Type 0} → (Content → Result A FieldFault) → (A → List ℕ) → Type 0
 ReadBack {A} says written = (xs : List A) → map (λ f. f.said) (fields says (flat_map written xs)) ≡ map Ok xs
+
+-- what the fields from any place of a file on say and lack
+pub record ReadInPlace {A : Type 0} (says : Content → Result A FieldFault) (written : A → List ℕ) : Type 0 where
+  -- a written value is read where it stands, whatever bytes stand before and behind it, and the next field begins behind it
+  pub back : (x : A) (file more : List ℕ) (at : ℕ) → drop at file ≡ written x ++ more
+      → fields_from says at file ≡ record { at = at; said = Ok x } ∷ fields_from says (at + length (written x)) file
+  -- each field that can't be read is refused as a bad field at its tag
+  pub refused : (file : List ℕ) (at : ℕ) → All (λ f. IfErr f.said (λ d. refusal_of d ≡ bad_field f.at)) (fields_from says at file)

@@ -1,5 +1,5 @@
 // What holds of the fields of every file: each function's contract is a theorem.
-ghost use Rattle.fields.specs.Laws.{CutBetween, ReadBack};
+ghost use Rattle.fields.specs.Laws.{CutBetween, ReadBack, ReadInPlace};
 
 use crate::says::Says;
 
@@ -11,4 +11,10 @@ pub fn files_cut_between_fields<T: Says>()
 /// A file that is written value by value says these values, in order.
 pub fn written_files_are_read_back<T: Says>()
     ensures { ReadBack T.says T.written }
+{}
+
+/// A value that is written at a place of a file is read there, whatever bytes stand before and behind it;
+/// a field that can't be read is refused at its tag.
+pub fn written_fields_are_read_in_place<T: Says>()
+    ensures { ReadInPlace T.says T.written }
 {}
