@@ -38,10 +38,13 @@ pub fn check_names(text: &[u8], names: &[Span]) -> Result<(), WordFault>
 }
 
 /// Whether a word is this name.
+// Cut from the text here, not by `word_at`: a name is compared with each signal's before it, and `Span::of` costs half as much again.
 pub fn is_named(text: &[u8], word: Span, name: &[u8]) -> bool
     ensures { result ≡ bytes_eq (piece_on text.now word).bytes name.now }
 {
-    word_at(text, word).text == name
+    text.get(word.at..).map_or(name.is_empty(), |rest| {
+        rest.get(..word.len).unwrap_or(rest) == name
+    })
 }
 
 /// Whether the name is one of these.

@@ -1,10 +1,22 @@
 -- The first byte that a netlist may not hold. Assumes nothing.
-use Rattle.std.proofs.Common.{◌≡◌, ℕ, suc, ◌+◌, Bool, true, false, cond, not, ltb, List, [], ◌∷◌, length, take, position, Option, Some, None, Result, Ok, Err, sym, refl, ap, ◌∙◌, one-add, arith}
+use Rattle.std.proofs.Common.{◌≡◌, ℕ, suc, ◌+◌, Bool, true, false, cond, not, ltb, List, [], ◌∷◌, length, take, position, Option, Some, None, Result, Ok, Err, sym, refl, ap, ◌∙◌, one-add, arith, min, ◌-◌, drop, ⊎_elim}
 use lib.Dec.{leb-suc-suc}
 use Rattle.std.specs.List.{position_or_len}
-use Rattle.std.proofs.lemmas.Bool.{lt-ltb}
+use Rattle.std.proofs.lemmas.Bool.{cases_lt, lt-ltb}
+use Rattle.std.proofs.lemmas.List.{length-drop, take_all, take_rest}
 use Rattle.text.specs.Text.{bad, bad_places}
 use Rattle.text.specs.Refusals.{refusing}
+
+-- a line that is cut off with the text is the line as far as the text goes
+pub cut_short : (xs : List ℕ) (from end m : ℕ) → m ≡ min end (length xs) → take (m - from) (drop from xs) ≡ take (end - from) (drop from xs)
+cut_short xs from end m e =
+    ⊎_elim
+    (λ within. ap (λ (k : ℕ). take (k - from) (drop from xs)) (omega (arith, e, within)))
+    (λ past.
+    ap (λ (k : ℕ). take (k - from) (drop from xs)) (omega (arith, e, past))
+    ∙ (take_rest xs from
+    ∙ sym (take_all (end - from) (drop from xs) (omega (arith, past, length-drop from xs)))))
+    (cases_lt end (length xs))
 
 module _ {F : Type 0} (f : ℕ → F) where
   -- a fault at the place that is found, counted from `at`

@@ -28,24 +28,6 @@ fn is_bad(b: u8) -> bool
     b == b'\\' || !matches!(b, b'\t' | b'\n' | b'\r' | b' '..=b'~')
 }
 
-// Cut by place here: `Span::of`, which does it for readers, stands in a crate that this one does not stand on.
-
-/// The text from `from` on, which may lie past its end.
-fn after(text: &[u8], from: usize) -> &[u8]
-    ensures is { result.now ≡ drop from text.now }
-    ensures len { length result.now ≡ length text.now - from }
-{
-    text.get(from..).unwrap_or_default()
-}
-
-/// The first `len` bytes of the text, or all of them.
-fn front(text: &[u8], len: usize) -> &[u8]
-    ensures is { result.now ≡ take len text.now }
-    ensures within { length result.now ≤ length text.now }
-{
-    text.get(..len).unwrap_or(text)
-}
-
 // Three functions, one for each test: one over any test would have to say first what the test answers.
 fn line_len(text: &[u8]) -> usize
     ensures is { result ≡ prefix_len (λ b. not (newline b)) text.now }
@@ -80,14 +62,17 @@ fn bad_at(text: &[u8]) -> Option<usize>
 pub fn line_end(text: &[u8], from: usize) -> usize
     ensures { result ≡ from + prefix_len (λ b. not (newline b)) (drop from text.now) }
 {
-    from + line_len(after(text, from))
+    text.get(from..).map_or(from, |rest| from + line_len(rest))
 }
 
 /// Refuses the first byte from `from` up to `end` that a netlist may not hold, also in a comment.
 pub fn check_bytes(text: &[u8], from: usize, end: usize) -> Result<(), WordFault>
     ensures { result ≡ refusing BadByte (bad_places from (take (end - from) (drop from text.now))) }
 {
-    match bad_at(front(after(text, from), end.saturating_sub(from))) {
+    let Some(line) = text.get(from..end.min(text.len())) else {
+        return Ok(());
+    };
+    match bad_at(line) {
         Some(skipped) => Err(WordFault::BadByte(from + skipped)),
         None => Ok(()),
     }
@@ -109,8 +94,8 @@ pub fn next_word<'a>(text: &'a [u8], from: usize) -> Option<Word<'a>>
     ensures part { IfSome result (λ w. w.text.now ≡ take (length w.text.now) (drop w.at text.now)) }
     ensures within { IfSome result (λ w. (from ≤ w.at) × (0 < length w.text.now) × (w.at + length w.text.now ≤ length text.now)) }
 {
-    let start = from + blanks_len(after(text, from));
-    let end = start + word_len(after(text, start));
+    let start = from + blanks_len(text.get(from..)?);
+    let end = start + word_len(text.get(start..)?);
     (start < end).then(|| Word {
         text: &text[start..end],
         at: start,
