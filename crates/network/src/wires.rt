@@ -1,7 +1,7 @@
 // The wires of a list of signals.
 ghost use Rattle.std.specs.Prelude.{◌≡◌, ◌<◌, ◌≤◌, All, length};
 ghost use Rattle.network.specs.Limit.{max_signals};
-ghost use Rattle.network.specs.Wiring.{Wired, pins_of, feeders as feeders_of};
+ghost use Rattle.network.specs.Wiring.{Wired, number_of_pins, signal_at_pin, pins_of, feeders as feeders_of};
 
 use crate::signal::{Driver, Signal};
 
@@ -13,6 +13,28 @@ impl Driver {
         match self {
             Driver::Gated(gate) => gate.pins(),
             Driver::Undriven | Driver::Input | Driver::Latched(_) => &[],
+        }
+    }
+
+    // How many pins; 0 where it is no gate. Neither this nor `pin` goes by `pins`: a scan would make that slice for each signal that it passes over.
+    pub(crate) fn pin_count(&self) -> usize
+        ensures is { result ≡ number_of_pins self.now }
+        ensures few { result ≤ 4 }
+    {
+        match self {
+            Driver::Gated(gate) => usize::from(gate.pin_count),
+            Driver::Undriven | Driver::Input | Driver::Latched(_) => 0,
+        }
+    }
+
+    // The signal at a pin that there is.
+    pub(crate) fn pin(&self, pin: usize) -> u16
+        requires { pin < number_of_pins self.now }
+        ensures { result ≡ signal_at_pin self.now pin }
+    {
+        match self {
+            Driver::Gated(gate) => gate.pins[pin],
+            Driver::Undriven | Driver::Input | Driver::Latched(_) => unreachable(),
         }
     }
 }

@@ -74,6 +74,8 @@ impl Network {
         ensures is { result ≡ fanin self.now signal }
         ensures few { result ≤ 4 }
     {
-        self.feeders(signal).len()
+        self.signals
+            .get(signal)
+            .map_or(0, |found| found.driver.pin_count())
     }
 }

@@ -65,6 +65,6 @@ impl Network {
         ensures within { result < size_of self.now }
         ensures below { turn_of self.now result < turn_of self.now signal }
     {
-        usize::from(self.feeders(signal)[pin])
+        usize::from(self.signals[signal].driver.pin(pin))
     }
 }
