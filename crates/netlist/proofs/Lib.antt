@@ -17,3 +17,4 @@ pub mod Driving
 pub mod Naming
 pub mod Lawful
 mod Joining
+mod Meanings

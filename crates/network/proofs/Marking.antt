@@ -1,8 +1,8 @@
 -- Marks on what is downstream of a gate, turn by turn.
-use Rattle.std.proofs.Common.{◌≡◌, ℕ, ◌+◌, ◌<◌, Bool, true, false, not, eqb, List, length, get_or, set, replicate, sym, refl, ap, ◌∙◌, subst, inl, inr, ⊎_elim, arith}
+use Rattle.std.proofs.Common.{◌≡◌, ℕ, ◌+◌, ◌<◌, ◌≤◌, Bool, true, false, not, ◌||◌, eqb, List, length, get_or, set, replicate, sym, refl, ap, ◌∙◌, subst, inl, inr, ⊎_elim, arith}
 use Rattle.std.specs.List.{list_any}
 use Rattle.std.proofs.lemmas.List.{get_or-set_same, get_or-set_other, get_or-replicate, get_or_past, length-replicate}
-use Rattle.std.proofs.lemmas.Bool.{cases_eq, cases_lt, both_ways}
+use Rattle.std.proofs.lemmas.Bool.{cases_eq, cases_lt, cases_Bool, both_ways, not_from_false, or_left, or_right, or_cases, eq-eqb, eqb-true}
 use Rattle.network.specs.Marks.{marked, MarkedBelow, MarksReached}
 use Rattle.network.specs.Net.{signals, size, turn, signal_by_turn, fanin, from}
 use Rattle.network.specs.Reach.{Wire, Reaches, wire, further}
@@ -109,3 +109,33 @@ none_marked net gate marks n e =
 pub marks_closed : (net : Network) (gate : ℕ) (marks : List ℕ) → MarksReached net gate marks → (s k : ℕ) → k < fanin net s → marked marks (from net s k) ≡ true → marked marks s ≡ true
 marks_closed net gate marks m s k l yes' =
     m.all s (ends_within (signals net) s k l) (inr (one_further (signals net) gate (from net s k) s (m.only (from net s k) yes').1 (k, l, refl)))
+
+-- past the signals no cell has a mark
+pub marks_past : (net : Network) (gate : ℕ) (marks : List ℕ) → MarksReached net gate marks → (s : ℕ) → size net ≤ s → get_or marks s 0 ≡ 0
+marks_past net gate marks m s past =
+    ⊎_elim
+    (λ yes'. eqb-true (get_or marks s 0) 0 yes')
+    (λ no'. absurd (omega (arith, past, (m.only s (not_from_false (eqb (get_or marks s 0) 0) no')).0)))
+    (cases_Bool (eqb (get_or marks s 0) 0))
+
+same_tests : (a b : Bool) → (a ≡ true → b ≡ true) → (b ≡ true → a ≡ true) → a ≡ b
+same_tests true true to back = refl
+same_tests true false to back = sym (to refl)
+same_tests false true to back = back refl
+same_tests false false to back = refl
+
+-- marked are the gate and what reads a marked signal
+pub marks_fix : (net : Network) (gate : ℕ) (marks : List ℕ) → MarksReached net gate marks → (s : ℕ) → s < size net → marked marks s ≡ (eqb s gate || list_any (marked marks) (feeders (signals net) s))
+marks_fix net gate marks m s l =
+    same_tests (marked marks s) (eqb s gate || reads net marks s)
+    (λ yes'.
+    ⊎_elim
+    (λ e. or_left (eqb s gate) (reads net marks s) (eq-eqb s gate e))
+    (λ way. or_right (eqb s gate) (reads net marks s) (reached_reads net gate s marks (λ u lu h r. m.all u lu r) way))
+    (m.only s yes').1)
+    (λ yes'.
+    m.all s l
+    (⊎_elim
+    (λ e. inl (eqb-true s gate e))
+    (λ e. read_reached net gate s marks (λ u mu. (m.only u mu).1) e)
+    (or_cases (eqb s gate) (reads net marks s) yes')))

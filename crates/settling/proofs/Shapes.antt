@@ -1,6 +1,8 @@
 -- Sound shapes: their turns, their taps and their webs.
-use Rattle.std.proofs.Common.{◌≡◌, ℕ, ◌<◌, ◌≤◌, List, length, sym, ap, ◌∙◌, arith}
+use Rattle.std.proofs.Common.{◌≡◌, ℕ, ◌<◌, ◌≤◌, ◌&&◌, eqb, ltb, List, length, sym, ap, ◌∙◌, ⊎_elim, arith}
 use Rattle.std.proofs.ByRecursion.{All-get_or, All-map}
+use Rattle.std.proofs.lemmas.Bool.{cases_lt}
+use Rattle.std.proofs.lemmas.Bool.Decides.{nat_tests}
 use Rattle.gauge.specs.Semirings.{Ops}
 use Rattle.paths.specs.Web.{Ranked}
 use Rattle.settling.specs.declared.tap.Tap.{Tap}
@@ -27,3 +29,15 @@ tap_fits {shape} sound {weights} fit values room s k x in' there e =
     let from : (tap_at shape s k).from < shape.size = (All-get_or _ (shape.taps s) k _ there (sound.climbs s in')).0 in
     let cell : (tap_at shape s k).cell < length weights = All-get_or _ (shape.taps s) k _ there (fit.weights_long s in') in
     (omega (arith, ap (λ y. y.from) e, room, from), omega (arith, ap (λ y. y.cell) e, cell))
+
+-- only the signal p has its turn
+pub is_turn : {shape : Shape} → Sound shape → (p t : ℕ) → p < shape.size → eqb t (shape.turn p) ≡ (ltb t shape.size && eqb (shape.signal_at t) p)
+is_turn {shape} sound p t in' =
+    ⊎_elim
+    (λ (l : t < shape.size).
+    let back = sound.signal_back t l in
+    let on = λ (e : t ≡ shape.turn p). ap shape.signal_at e ∙ sound.turn_back p in' in
+    let off = λ (e : shape.signal_at t ≡ p). sym back ∙ ap shape.turn e in
+    grind (arith, nat_tests))
+    (λ (l : shape.size ≤ t). let under = sound.turn_below p in' in grind (arith, nat_tests))
+    (cases_lt t shape.size)
