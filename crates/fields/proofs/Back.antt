@@ -1,14 +1,13 @@
 -- What is written is read back.
 use Rattle.std.proofs.Common.{◌≡◌, ℕ, ◌+◌, ◌<◌, ◌≤◌, List, [], ◌∷◌, ◌++◌, map, length, drop, Ok, Result, sym, refl, ap, ◌∙◌, subst, ap₂, arith, le-leb}
 use Rattle.std.specs.List.{flat_map}
-use Rattle.std.proofs.lemmas.List.{take_at, drop_at, length-append, length-drop}
+use Rattle.std.proofs.lemmas.List.{take_at, drop_at, length-append}
 use Rattle.std.proofs.lemmas.Bool.{cond-true}
 use Rattle.fields.specs.declared.faults.FieldFault.{FieldFault}
-use Rattle.fields.specs.Fields.{Content, size_of, field_at, next_place}
-use Rattle.fields.specs.Laws.{ReadBack, ReadInPlace}
-use Rattle.fields.specs.Lists.{told, said_at, placed, fields_from}
-use Rattle.fields.proofs.Order.{front, fields_more}
-use Rattle.fields.proofs.Refused.{fields_refused}
+use Rattle.fields.specs.Fields.{Content, size_of, field_at}
+use Rattle.fields.specs.Laws.{ReadBack}
+use Rattle.fields.specs.Lists.{told, said_at, placed}
+use Rattle.fields.proofs.Order.{front}
 use Rattle.fields.specs.Forms.{Form}
 use Rattle.fields.specs.Written.{field_of}
 
@@ -59,19 +58,3 @@ written_back {says = says} {written = written} form at (x ∷ xs) =
 
 pub read_back : {A : Type 0} {says : Content → Result A FieldFault} {written : A → List ℕ} → Form says written → ReadBack says written
 read_back form xs = written_back form 0 xs
-
--- and so is what is written at a place of a file
-module _ {A : Type 0} {says : Content → Result A FieldFault} {written : A → List ℕ} (form : Form says written) where
-  read_there : (x : A) (file more : List ℕ) (at : ℕ) → drop at file ≡ written x ++ more
-      → fields_from says at file ≡ record { at = at; said = Ok x } ∷ fields_from says (at + length (written x)) file
-  read_there x file more at h =
-      let b = back form x more in
-      let inside : at < length file = omega (arith, b.size, length-append (written x) more, length-drop at file, ap length h) in
-      let said : said_at says (drop at file) at ≡ Ok x = ap (λ (bytes : List ℕ). said_at says bytes at) h ∙ b.said at in
-      let next : next_place file at ≡ at + length (written x) = ap (λ (bytes : List ℕ). at + (3 + size_of bytes)) h ∙ ap (λ (n : ℕ). at + n) b.size in
-      fields_more says file at inside
-      ∙ (ap (λ (r : Result A FieldFault). record { at = at; said = r } ∷ fields_from says (next_place file at) file) said
-      ∙ ap (λ (n : ℕ). record { at = at; said = Ok x } ∷ fields_from says n file) next)
-
-  pub read_in_place : ReadInPlace says written
-  read_in_place = record { back = read_there; refused = fields_refused form }

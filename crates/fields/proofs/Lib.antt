@@ -1,5 +1,6 @@
 pub mod Back
 pub mod Cutting
+pub mod InPlace
 pub mod Opening
 pub mod Order
 pub mod Reading

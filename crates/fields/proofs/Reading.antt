@@ -19,7 +19,7 @@ told_ok says (Err d) x h = grind arith
 
 module _ {A : Type 0} (says : Content → Result A FieldFault) (file : List ℕ) (at : ℕ) where
   -- a field that says something ends in the file
-  ends : (x : A) → said_at says (drop at file) at ≡ Ok x → next_place file at ≤ length file
+  pub ends : (x : A) → said_at says (drop at file) at ≡ Ok x → next_place file at ≤ length file
   ends x h =
       let o = told_ok says (field_at (drop at file) at) x h in
       let w = whole (drop at file) at o.0 o.1 in
