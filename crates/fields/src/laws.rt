@@ -13,8 +13,8 @@ pub fn written_files_are_read_back<T: Says>()
     ensures { ReadBack T.says T.written }
 {}
 
-/// A value that is written at a place of a file is read there, whatever bytes stand before and behind it;
-/// a field that can't be read is refused at its tag.
+/// Of the fields from any place of a file on: the first is the one at the place, and the next begins behind it and within the file;
+/// a value that is written there is read, whatever bytes stand before and behind it; a field that can't be read is refused at its tag.
 pub fn written_fields_are_read_in_place<T: Says>()
     ensures { ReadInPlace T.says T.written }
 {}
