@@ -1,5 +1,5 @@
 -- A script that is refused at a field leaves what its bytes before that field leave.
-use Rattle.std.proofs.Common.{◌≡◌, ℕ, zero, suc, ◌+◌, ◌≤◌, true, false, cond, ltb, List, [], ◌∷◌, ◌++◌, length, take, is_ok, Some, None, Ok, Err, Option, Result, sym, refl, ap, ◌∙◌, arith}
+use Rattle.std.proofs.Common.{◌≡◌, ℕ, ◌+◌, ◌≤◌, true, false, cond, ltb, List, [], ◌∷◌, ◌++◌, length, take, is_ok, Some, None, Ok, Err, Option, Result, sym, refl, ap, ◌∙◌, arith}
 use Rattle.std.specs.List.{AllByRecursion}
 use Rattle.std.proofs.lemmas.List.{length-take}
 use Rattle.std.proofs.lemmas.Bool.{ltb-false, le-ltb, cond-false}
@@ -11,13 +11,12 @@ use Rattle.gauge.specs.declared.matrix.EdgeMatrix.{EdgeMatrix}
 use Rattle.fields.specs.declared.edit.Edit.{Edit}
 use Rattle.fields.specs.declared.faults.FieldFault.{FieldFault}
 use Rattle.fault.specs.Limit.{max_bytes}
-use Rattle.fields.specs.Fields.{size_of}
 use Rattle.fields.specs.Forms.{edit_form}
-use Rattle.fields.specs.Lists.{placed, fields}
+use Rattle.fields.specs.Lists.{fields}
 use Rattle.fields.specs.declared.read.Placed.{Placed}
 use Rattle.fields.specs.Says.{edit_of}
 use Rattle.fields.proofs.Cutting.{cut_between}
-use Rattle.fields.proofs.Refused.{Refused, said_refused}
+use Rattle.fields.proofs.Refused.{Refused, placed_refused}
 use Rattle.book.specs.declared.edit_fault.EditFault.{EditFault}
 use Rattle.book.specs.declared.script_fault.ScriptFault.{ScriptFault}
 use Rattle.book.specs.declared.script_fault.ScriptFault.TheVariants as fault
@@ -33,14 +32,8 @@ use Rattle.book.proofs.Lengths.{field_next_long}
 abbrev pub RefusedThere : Placed Edit → Type 0
 RefusedThere f = Refused f.at f.said
 
-placed_refused : (skip at : ℕ) (bytes : List ℕ) → AllByRecursion RefusedThere (placed edit_of skip at bytes)
-placed_refused zero at [] = tt
-placed_refused (suc skip) at [] = tt
-placed_refused zero at (x ∷ xs) = (said_refused edit_form at (x ∷ xs), placed_refused (2 + size_of (x ∷ xs)) (at + 1) xs)
-placed_refused (suc skip) at (x ∷ xs) = placed_refused skip (at + 1) xs
-
 pub fields_refused : (file : List ℕ) → AllByRecursion RefusedThere (fields edit_of file)
-fields_refused file = placed_refused 0 0 file
+fields_refused file = placed_refused edit_form 0 0 file
 
 -- the fault of an edit among those of scripts
 call_fault : (a : Result ℕ EditFault) (d : ScriptFault) → as_call a ≡ Err d → (b : EditFault) × (a ≡ Err b) × (d ≡ fault.Edit b)

@@ -30,7 +30,7 @@ module _ {A : Type 0} {says : Content → Result A FieldFault} {written : A → 
   abbrev RefusedThere : Placed A → Type 0
   RefusedThere f = Refused f.at f.said
 
-  placed_refused : (skip at : ℕ) (bytes : List ℕ) → AllByRecursion RefusedThere (placed says skip at bytes)
+  pub placed_refused : (skip at : ℕ) (bytes : List ℕ) → AllByRecursion RefusedThere (placed says skip at bytes)
   placed_refused zero at [] = tt
   placed_refused (suc skip) at [] = tt
   placed_refused zero at (x ∷ xs) = (said_refused form at (x ∷ xs), placed_refused (2 + size_of (x ∷ xs)) (at + 1) xs)
